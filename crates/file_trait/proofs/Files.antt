@@ -1,7 +1,7 @@
 -- How the files read after one thing is done.
-use Rattle.std.proofs.Common.{◌≡◌, ◌≢◌, ℕ, ◌≤◌, Bool, true, false, if◌then◌else◌, List, [], Option, None, Some, option_map, refl, ap, ◌∙◌, arith}
-use Rattle.file_trait.specs.DiskModel.{Past, handed, did, FileOp, to_file, to_dir, sync, sync_dir, create, rename, remove, FileId, made, clock, same_name, named, changed, content, reads}
-use Rattle.file_trait.proofs.Names.{same_name_refl, same_name_true, same_name_false, is_file_some, is_file_other, young, apart}
+use Rattle.std.proofs.Common.{◌≡◌, ◌≢◌, ℕ, ◌≤◌, Bool, true, false, if◌then◌else◌, List, [], Option, None, Some, option_map, unwrap_or, refl, ap, ◌∙◌, arith}
+use Rattle.file_trait.specs.DiskModel.{Past, handed, did, FileOp, DiskOp, Spares, to_file, to_dir, sync, sync_dir, create, rename, remove, FileId, first, made, clock, same_name, named, changed, content, reads}
+use Rattle.file_trait.proofs.Names.{same_name_refl, same_name_true, same_name_false, is_file_some, is_file_other, young, apart, other_name}
 
 pub content_self : (past : Past) (name : List ℕ) (op : FileOp) (i : FileId) → named past name ≡ Some i → content (did (to_file name op) past) i ≡ changed op (content past i)
 content_self past name op i is = ap (λ b. if b then changed op (content past i) else content past i) (is_file_some (named past name) i is)
@@ -31,6 +31,14 @@ file_at past name other op (Some i) is true same =
 file_at past name other op (Some i) is false same =
     ap (λ c. Some c) (content_other past name op i (λ at. same_name_false name other same (apart past name other i at is)))
 
+-- the files handed over
+pub reads_handed : (files : List ℕ → Option (List ℕ)) (name : List ℕ) → reads (handed files) name ≡ files name
+reads_handed files name = go (files name) refl
+  where
+    go : (o : Option (List ℕ)) → files name ≡ o → option_map (content (handed files)) (option_map (λ _. first name) o) ≡ o
+    go None is = refl
+    go (Some bytes) is = ap (λ o. Some (unwrap_or o [])) is
+
 -- the file named changes, and no other
 pub reads_file : (past : Past) (name : List ℕ) (op : FileOp) (other : List ℕ)
     → reads (did (to_file name op) past) other ≡ (if same_name name other then option_map (changed op) (reads past other) else reads past other)
@@ -50,6 +58,23 @@ reads_rename past from to other =
 
 pub reads_remove : (past : Past) (name other : List ℕ) → reads (did (to_dir (remove name)) past) other ≡ (if same_name name other then None else reads past other)
 reads_remove past name other = map_if (content past) (same_name name other) None (named past other)
+
+-- ---- other files
+
+if_other : {A : Type 0} (name other : List ℕ) (x y : A) → name ≢ other → (if same_name name other then x else y) ≡ y
+if_other name other x y apart = ap (λ b. if b then x else y) (other_name name other apart)
+
+-- a file that it does not name reads as before
+pub reads_other : (past : Past) (op : DiskOp) (other : List ℕ) → Spares op other → reads (did op past) other ≡ reads past other
+reads_other past (to_file name op) other h = reads_file past name op other ∙ if_other name other (option_map (changed op) (reads past other)) (reads past other) h
+reads_other past (to_dir (create name)) other h = reads_create past name other ∙ if_other name other (Some []) (reads past other) h
+reads_other past (to_dir (rename from to)) other h =
+    reads_rename past from to other
+    ∙ if_other to other (reads past from) (if same_name from other then None else reads past other) h.1
+    ∙ if_other from other None (reads past other) h.0
+reads_other past (to_dir (remove name)) other h = reads_remove past name other ∙ if_other name other None (reads past other) h
+reads_other past (sync name) other h = refl
+reads_other past sync_dir other h = refl
 
 -- ---- the file itself
 

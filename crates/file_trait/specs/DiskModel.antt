@@ -1,5 +1,5 @@
 -- A disk by what was done to it: how its directory and files read.
-use Rattle.std.specs.Prelude.{ℕ, ◌+◌, Bool, false, if◌then◌else◌, List, [], ◌++◌, take, drop, nat_eq, Option, None, Some, option_map, unwrap_or}
+use Rattle.std.specs.Prelude.{◌≢◌, ℕ, ◌+◌, Bool, false, if◌then◌else◌, List, [], ◌++◌, take, drop, nat_eq, Option, None, Some, option_map, unwrap_or}
 use Rattle.std.specs.Cmp.Lexicographic.{pointwise}
 
 -- ---- what may be done
@@ -21,6 +21,15 @@ pub data DiskOp : Type 0 where
   to_dir : (op : DirOp) → DiskOp
   sync : (name : List ℕ) → DiskOp
   sync_dir : DiskOp
+
+-- it does nothing to a file of this name
+abbrev pub Spares : DiskOp → List ℕ → Type 0
+Spares (to_file name op) other = name ≢ other
+Spares (to_dir (create name)) other = name ≢ other
+Spares (to_dir (rename from to)) other = (from ≢ other) × (to ≢ other)
+Spares (to_dir (remove name)) other = name ≢ other
+Spares (sync name) other = Unit {0}
+Spares sync_dir other = Unit {0}
 
 -- what a disk went through: it was handed over with these files, all durable, and then one thing after another was done
 pub data Past : Type 0 where

@@ -1,6 +1,12 @@
 pub mod Calls
 pub mod Counts
+pub mod Directory
 pub mod DiskModel
+pub mod Faults
+pub mod MemDisk
+pub mod MemStreams
+pub mod Memory
 pub mod Name
 pub mod Padded
 pub mod Streams
+pub mod Tally

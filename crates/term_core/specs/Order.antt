@@ -1,12 +1,13 @@
--- The order of trees is total.
-use Rattle.std.specs.Prelude.{◌≡◌, refl}
+-- The order of trees is total, and equal trees are the same.
+use Rattle.std.specs.Prelude.{◌≡◌, ◌↔◌, refl, Bool, true, IsTrue}
 use Rattle.std.proofs.Common.{sym, ap, subst, ◌∙◌}
 use Rattle.std.specs.declared.cmp.Ordering.{Ordering}
 use Rattle.std.specs.declared.cmp.Ordering.TheVariants.{Less, Equal, Greater}
-use Rattle.std.specs.Ordering.{ordering_then, ordering_reverse}
-use Rattle.std.specs.Cmp.{IsTotalOrder, nat_cmp_total, int_cmp_total, alike_right}
-use Rattle.std.specs.Cmp.Lexicographic.{nat_list_cmp_total}
-use Rattle.term_core.specs.Tree.{Tree, int, atom, tuple, list, bin, Trees, no_trees, tree, rank, number, text, size, inner, parts_cmp, none_cmp, tree_cmp, trees_cmp}
+use Rattle.std.specs.Ordering.{nat_cmp, int_cmp, ordering_then, ordering_reverse, is_eq}
+use Rattle.std.specs.Cmp.{IsTotalOrder, nat_cmp_total, int_cmp_total, alike_right, tied_itself, Equal-is}
+use Rattle.std.specs.FinMap.{IsAntisymmetric, nat_cmp-IsAntisymmetric, int_cmp-IsAntisymmetric, slice_cmp-IsAntisymmetric}
+use Rattle.std.specs.Cmp.Lexicographic.{slice_cmp, nat_list_cmp_total}
+use Rattle.term_core.specs.Tree.{Tree, int, atom, tuple, list, bin, Trees, no_trees, tree, count, rank, number, text, size, inner, parts_cmp, none_cmp, tree_cmp, trees_cmp}
 
 -- the third order follows from the first two, where it does
 abbrev Follows : Ordering → Ordering → Ordering → Type 0
@@ -164,3 +165,61 @@ tree_total = record {
   trans = λ x y z. (triple x y z).trans;
   congr = λ x y z. (triple x y z).congr;
 }
+
+-- both orders say equal
+then_equal : (o p : Ordering) → ordering_then o p ≡ Equal → (o ≡ Equal) × (p ≡ Equal)
+then_equal Less p h = absurd cc
+then_equal Equal p h = (refl, h)
+then_equal Greater p h = absurd cc
+
+mutual
+  tree_same : (x y : Tree) → tree_cmp x y ≡ Equal → x ≡ y
+  tree_same (int m) (int n) h = ap int (int_cmp-IsAntisymmetric m n (then_equal (int_cmp m n) Equal h).0)
+  tree_same (int m) (atom b) h = absurd cc
+  tree_same (int m) (tuple ys) h = absurd cc
+  tree_same (int m) (list ys) h = absurd cc
+  tree_same (int m) (bin b) h = absurd cc
+  tree_same (atom a) (int n) h = absurd cc
+  tree_same (atom a) (atom b) h = ap atom (slice_cmp-IsAntisymmetric nat_cmp-IsAntisymmetric a b (then_equal (slice_cmp nat_cmp a b) Equal h).0)
+  tree_same (atom a) (tuple ys) h = absurd cc
+  tree_same (atom a) (list ys) h = absurd cc
+  tree_same (atom a) (bin b) h = absurd cc
+  tree_same (tuple xs) (int n) h = absurd cc
+  tree_same (tuple xs) (atom b) h = absurd cc
+  tree_same (tuple xs) (tuple ys) h = ap tuple (trees_same xs ys (then_equal (nat_cmp (count xs) (count ys)) (trees_cmp xs ys) h).1)
+  tree_same (tuple xs) (list ys) h = absurd cc
+  tree_same (tuple xs) (bin b) h = absurd cc
+  tree_same (list xs) (int n) h = absurd cc
+  tree_same (list xs) (atom b) h = absurd cc
+  tree_same (list xs) (tuple ys) h = absurd cc
+  tree_same (list xs) (list ys) h = ap list (trees_same xs ys h)
+  tree_same (list xs) (bin b) h = absurd cc
+  tree_same (bin a) (int n) h = absurd cc
+  tree_same (bin a) (atom b) h = absurd cc
+  tree_same (bin a) (tuple ys) h = absurd cc
+  tree_same (bin a) (list ys) h = absurd cc
+  tree_same (bin a) (bin b) h = ap bin (slice_cmp-IsAntisymmetric nat_cmp-IsAntisymmetric a b (then_equal (slice_cmp nat_cmp a b) Equal h).0)
+
+  trees_same : (xs ys : Trees) → trees_cmp xs ys ≡ Equal → xs ≡ ys
+  trees_same no_trees no_trees h = refl
+  trees_same no_trees (tree y ys) h = absurd cc
+  trees_same (tree x xs) no_trees h = absurd cc
+  trees_same (tree x xs) (tree y ys) h =
+      let both = then_equal (tree_cmp x y) (trees_cmp xs ys) h in
+      λ i. tree (tree_same x y both.0 i) (trees_same xs ys both.1 i)
+
+pub tree_cmp-IsAntisymmetric : IsAntisymmetric tree_cmp
+tree_cmp-IsAntisymmetric = tree_same
+
+-- whether two trees are the same
+abbrev pub same_tree : Tree → Tree → Bool
+same_tree x y = is_eq (tree_cmp x y)
+
+pub same_tree_true : (x y : Tree) → same_tree x y ≡ true → x ≡ y
+same_tree_true x y h = tree_same x y ((Equal-is (tree_cmp x y)).0 h)
+
+pub same_tree_refl : (t : Tree) → same_tree t t ≡ true
+same_tree_refl t = ap is_eq (tied_itself tree_total t)
+
+pub same_tree_is : (x y : Tree) → IsTrue (same_tree x y) ↔ (x ≡ y)
+same_tree_is x y = (same_tree_true x y, λ p. ap (same_tree x) (sym p) ∙ same_tree_refl x)

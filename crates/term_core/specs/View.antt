@@ -1,9 +1,9 @@
 -- A term seen as its tree.
 use Rattle.std.specs.Prelude.{List, [], ◌∷◌, map}
 use Rattle.term_core.specs.Tree.{Tree, int, atom, tuple, list, bin, Trees, no_trees, tree}
-use Rattle.term_core.specs.declared.Term.{Term}
-use Rattle.term_core.specs.declared.Term.TheFolds.{fold-Term}
-use Rattle.term_core.specs.declared.Term.TheOpen.{Term-F}
+use Rattle.term_core.specs.declared.term.Term.{Term}
+use Rattle.term_core.specs.declared.term.Term.TheFolds.{fold-Term}
+use Rattle.term_core.specs.declared.term.Term.TheOpen.{Term-F}
 
 abbrev pub trees_of : List Tree → Trees
 trees_of [] = no_trees

@@ -1,14 +1,13 @@
-//! The order of terms.
+//! The order of terms, which is that of their trees, and their equality, which is sameness of trees.
 
-ghost use Rattle.std.specs.Prelude.{◌≡◌};
+ghost use Rattle.std.specs.Prelude.{◌≡◌, ◌↔◌, IsTrue, refl};
 ghost use Rattle.std.specs.Ordering.{nat_cmp, eq_by_cmp, as_partial_cmp, on};
 ghost use Rattle.std.specs.Cmp.{on_total, partial_order_from_agreeing_total, partial_equiv_from_equiv, eq_by_cmp_equiv};
-ghost use Rattle.std.specs.Prelude.{refl};
-ghost use Rattle.term_core.specs.Tree.{tree_cmp, trees_cmp, rank};
+ghost use Rattle.term_core.specs.Tree.{tree_cmp, trees_cmp};
 ghost use Rattle.term_core.specs.Order.{tree_total};
 ghost use Rattle.term_core.specs.View.{tree_of, forest_of};
 
-use crate::Term;
+use crate::term::Term;
 use std::cmp::Ordering;
 
 impl PartialEq for Term {
@@ -16,7 +15,10 @@ impl PartialEq for Term {
 
     ghost laws = { partial_equiv_from_equiv (eq_by_cmp_equiv (on_total tree_of tree_total)) };
 
-    fn eq(&self, other: &Term) -> bool {
+    fn eq(&self, other: &Term) -> bool
+        ensures by_order { result ≡ eq_by_cmp (on tree_of tree_cmp) self.now other.now }
+        ensures same { IsTrue result ↔ (tree_of self.now ≡ tree_of other.now) }
+    {
         compare(self, other).is_eq()
     }
 }
@@ -46,19 +48,6 @@ impl PartialOrd for Term {
 
     fn partial_cmp(&self, other: &Term) -> Option<Ordering> {
         Some(compare(self, other))
-    }
-}
-
-/// Integers, atoms, tuples, lists, binaries.
-fn kind(term: &Term) -> u8
-    ensures { result ≡ rank (tree_of term.now) }
-{
-    match term {
-        Term::Int(_) => 0,
-        Term::Atom(_) => 1,
-        Term::Tuple(_) => 2,
-        Term::List(_) => 3,
-        Term::Bin(_) => 4,
     }
 }
 

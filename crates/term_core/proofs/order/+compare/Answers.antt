@@ -2,7 +2,7 @@ use Rattle.std.proofs.Common.{◌≡◌, arith, sym, ap, ◌∙◌, List, [], dr
 use Rattle.std.proofs.lemmas.Grind.{common_steps}
 use Rattle.term_core.specs.View.{forest_of}
 use Rattle.term_core.specs.Tree.{trees_cmp}
-use Rattle.term_core.specs.declared.Term.{Term}
+use Rattle.term_core.specs.declared.term.Term.{Term}
 use Rattle.term_core.proofs.Forests.{tuples_cmp, none_below}
 use Rattle.term_core.proofs.order.+compare.Goals as goal
 

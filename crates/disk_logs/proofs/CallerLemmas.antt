@@ -1,0 +1,34 @@
+-- What callers need of a log.
+use Rattle.std.proofs.Common.{◌≡◌, ℕ, true, false, List, [], ◌∷◌, ◌++◌, Some, is_some, Result, Ok, Err, OnOk, sym, ap, ◌∙◌, subst}
+use Rattle.std.proofs.lemmas.List.{append-nil}
+use Rattle.std.proofs.lemmas.List.Elements.{All-nil, All-cons}
+use Rattle.file_trait.specs.DiskModel.{Past, reads}
+use Rattle.file_trait.specs.Calls.{IsThere}
+use Rattle.disk_logs.specs.Items.{item_bytes, log_bytes, IsSmall}
+use Rattle.disk_logs.specs.Logs.{Handle, draft_name, file_of, opened, IsLog, AreItems, IsMoved}
+
+-- a draft that was published
+pub published_log : (past_old past_new : Past) (draft log : Handle) (name : List ℕ) (all : List (List ℕ)) → draft ≡ record { name = name; draft = true; closed = true }
+    → log ≡ record { name = draft.name; draft = false; closed = draft.closed } → reads past_old (draft_name name) ≡ Some (log_bytes true all)
+    → IsMoved (draft_name draft.name) draft.name past_old past_new → IsLog past_new log
+published_log past_old past_new draft log name all is now made moved =
+    let same : log ≡ record { name = name; draft = false; closed = true } = now ∙ ap (λ (d : Handle). record { name = d.name; draft = false; closed = d.closed }) is in
+    subst (IsLog past_new) (sym same)
+    (all, ap (reads past_new) (sym (ap (λ (d : Handle). d.name) is)) ∙ moved.0 ∙ ap (λ (d : Handle). reads past_old (draft_name d.name)) is ∙ made)
+
+-- a log after an append
+pub appended_log : (past : Past) (old new : Handle) (all : List (List ℕ)) → new ≡ opened old → reads past (file_of old) ≡ Some (log_bytes new.closed all) → IsLog past new
+appended_log past old new all is here = (all, ap (reads past) (ap file_of is) ∙ here)
+
+pub log_there : (past : Past) (log : Handle) → IsLog past log → IsThere past (file_of log)
+log_there past log (all, here) = ap is_some here
+
+-- one item as put_item lays it out
+pub one_item : (bytes before content : List ℕ) → IsSmall content → before ≡ [] → bytes ≡ before ++ item_bytes content → AreItems bytes
+one_item bytes before content small none is =
+    (content ∷ [], All-cons IsSmall content [] small (All-nil IsSmall), is ∙ ap (λ z. z ++ item_bytes content) none ∙ sym (append-nil (item_bytes content)))
+
+-- a log after a sync
+pub synced_log : {T E : Type 0} (r : Result T E) (past new : Past) (log now : Handle) → IsLog past log → now ≡ log → ((other : List ℕ) → reads new other ≡ reads past other) → OnOk r (IsLog new now)
+synced_log (Err e) past new log now is same kept = tt
+synced_log (Ok x) past new log now (all, here) same kept = subst (IsLog new) (sym same) (all, kept (file_of log) ∙ here)

@@ -1,0 +1,29 @@
+use Rattle.std.proofs.Common.{◌∙◌, true, ◌∷◌, []}
+use Rattle.disk_logs.specs.Items.{log_bytes}
+use Rattle.disk_logs.proofs.Effects.{on_err}
+use Rattle.disk_logs.proofs.Drafts.{create_left, append_left_made, drafted, draft_kept}
+use Rattle.disk_logs.proofs.log.Log.draft.Goals as goal
+
+pub returns-in_err-told-clause-left : goal.returns-in_err-told-clause-left
+returns-in_err-told-clause-left g c told =
+    on_err _ (create_left (log_bytes true (c.args.head_item.now ∷ [])) _ _ _ _ _ _ c.draft_name-file.ensures (c.in_ok-clear.ensures.gone told) (c.create.ensures.done told))
+
+pub returns-in_err-told-2-clause-left : goal.returns-in_err-told-2-clause-left
+returns-in_err-told-2-clause-left g c told =
+    on_err _ (append_left_made _ _ _ _ _ _ _ _ _ _ _ _ c.draft_name-file.ensures (c.deref.ensures.value ∙ c.in_ok-bytes.ensures) c.told.ensures c.in_ok-told.was (c.create.ensures.done told)
+    (c.append.ensures.done told))
+
+pub returns-in_err-told-2-clause-others : goal.returns-in_err-told-2-clause-others
+returns-in_err-told-2-clause-others g c told other apart =
+    draft_kept _ _ _ _ _ _ _ _ c.draft_name-file.ensures (c.create.ensures.done told) (c.append.ensures.done told) other apart
+    ∙ c.clear.ensures.others told other (λ is. apart (is ∙ c.draft_name-file.ensures))
+
+pub returns-clause-made : goal.returns-clause-made
+returns-clause-made g c told =
+    drafted _ _ _ _ _ _ _ _ _ _ _ _ _ c.draft_name-file.ensures (c.deref.ensures.value ∙ c.in_ok-bytes.ensures) c.told.ensures c.in_ok-told.was (c.create.ensures.done told)
+    c.told-2.ensures c.in_ok-told-2.was (c.append.ensures.done told)
+
+pub returns-clause-others : goal.returns-clause-others
+returns-clause-others g c told other apart =
+    draft_kept _ _ _ _ _ _ _ _ c.draft_name-file.ensures (c.create.ensures.done told) (c.append.ensures.done told) other apart
+    ∙ c.clear.ensures.others told other (λ is. apart (is ∙ c.draft_name-file.ensures))

@@ -1,0 +1,15 @@
+use Rattle.std.proofs.Common.{◌≡◌, ◌≤◌, ◌-◌, ℕ, List, IsTrue, vec_len, Some}
+use Rattle.file_trait.specs.DiskModel.{reads}
+use Rattle.disk_logs.specs.Scan.{StartsWith}
+use Rattle.disk_logs.proofs.reading.read_file.Given as goal
+
+abbrev pub invariant-pieces : goal.invariant-pieces
+invariant-pieces g l = record {
+  within : vec_len l.bytes ≤ l.len;
+  same : IsTrue g.D.Disk.tells → g.D.Disk.past l.disk ≡ g.D.Disk.past l.fn.disk;
+  part : (file : List ℕ) → IsTrue g.D.Disk.tells → reads (g.D.Disk.past l.fn.disk) l.name ≡ Some file → StartsWith l.bytes.items file;
+  later : g.D.Disk.faults l.fn.disk ≤ g.D.Disk.faults l.disk;
+}
+
+abbrev pub decreases-pieces : goal.decreases-pieces
+decreases-pieces g l = l.len - vec_len l.bytes

@@ -1,0 +1,5 @@
+pub mod Chunks
+pub mod Errors
+pub mod Items
+pub mod Logs
+pub mod Scan

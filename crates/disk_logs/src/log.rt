@@ -1,0 +1,257 @@
+//! A log over a disk.
+
+ghost use Rattle.std.specs.Prelude.{◌≡◌, ◌≢◌, ◌⊎◌, ℕ, ◌≤◌, ◌&&◌, Bool, true, false, List, [], ◌∷◌, ◌++◌, ◌+◌, length, take, Some, IsTrue, IfOk, IfSome, OnOk, OnErr, IsErrOf};
+ghost use Rattle.file_trait.specs.DiskModel.{reads};
+ghost use Rattle.file_trait.specs.Calls.{IsThere, IsAbsent};
+ghost use Rattle.file_trait.specs.Name.{IsName};
+ghost use Rattle.disk_logs.specs.Errors.{OnlyFile, OnlyFileOrMemory, LogCause};
+ghost use Rattle.disk_logs.specs.Items.{wire, log_bytes, IsSmall};
+ghost use Rattle.disk_logs.specs.Logs.{draft_name as name_of_draft, file_of, with_mark, opened, IsLog, AreItems, HasAppended, HasMarked, mark_bytes as bytes_of_mark, IsKept, IsMoved, HasPart, Finds};
+
+use crate::error::told;
+use crate::reading::read_file;
+use crate::scan::bad_place;
+use crate::{LogErr, put_item};
+use file_trait::{Disk, FileName};
+use std::alloc::{AllocError, Global};
+use std::marker::Model;
+
+const CLOSED_HEAD: [u8; 8] = [1, 2, 3, 4, 99, 88, 77, 11];
+
+/// A log. Its file is a draft until it is published, and then has the log's name.
+#[derive(Drop)]
+pub struct Log {
+    name: FileName,
+    file: FileName,
+    draft: bool,
+    closed: bool,
+}
+
+impl Model for Log {
+    ghost use Rattle.std.specs.Prelude.{◌≡◌};
+    ghost use Rattle.disk_logs.specs.Logs.{Handle, file_of};
+
+    ghost Value = { Handle };
+
+    ghost view = { λ l. record { name = l.name; draft = l.draft; closed = l.closed } };
+
+    ghost invariant = { λ l. l.file ≡ file_of (record { name = l.name; draft = l.draft; closed = l.closed }) };
+}
+
+impl Log {
+    /// Makes a draft of a log with a first item, and its mark says closed. An older draft of the name is removed.
+    pub fn draft<D: Disk>(
+        alloc: Global,
+        disk: &mut D,
+        name: FileName,
+        head_item: &[u8],
+    ) -> Result<Log, LogErr>
+        requires short { length name ≤ 77 }
+        requires valid { IsName name }
+        requires small { IsSmall head_item.now }
+        ensures log { IfOk result (λ log. log ≡ record { name = name; draft = true; closed = true }) }
+        ensures made { IsTrue D.tells → OnOk result (reads (D.past disk.new) (name_of_draft name) ≡ Some (log_bytes true (head_item.now ∷ []))) }
+        ensures left { IsTrue D.tells → OnErr result (HasPart (log_bytes true (head_item.now ∷ [])) (reads (D.past disk.old) (name_of_draft name)) (reads (D.past disk.new) (name_of_draft name))) }
+        ensures others { IsTrue D.tells → (other : List ℕ) → other ≢ name_of_draft name → reads (D.past disk.new) other ≡ reads (D.past disk.old) other }
+        ensures only { OnlyFileOrMemory result }
+        ensures cause { LogCause (D.faults disk.old) (D.faults disk.new) (D.blamed disk.new) result }
+    {
+        let file = draft_name(name);
+        let bytes = draft_bytes(alloc, head_item)?;
+        clear(disk, file)?;
+        told(file, disk.create(file))?;
+        told(file, disk.append(file, &bytes))?;
+        Ok(Log {
+            name,
+            file,
+            draft: true,
+            closed: true,
+        })
+    }
+
+    /// Makes the draft durable and gives it the log's name. An earlier file of that name is gone.
+    pub fn publish<D: Disk>(&mut self, disk: &mut D) -> Result<(), LogErr>
+        requires draft { IsTrue self.old.draft }
+        requires there { IsTrue D.tells → IsThere (D.past disk.old) (name_of_draft self.old.name) }
+        ensures log { OnOk result (self.new ≡ record { name = self.old.name; draft = false; closed = self.old.closed }) }
+        ensures err { OnErr result (self.new ≡ self.old) }
+        ensures moved { IsTrue D.tells → OnOk result (IsMoved (name_of_draft self.old.name) self.old.name (D.past disk.old) (D.past disk.new)) }
+
+        // After an error the draft may have the name already, but not where memory was wanting.
+        ensures left { IsTrue D.tells → OnErr result (IsKept (name_of_draft self.old.name) self.old.name (D.past disk.old) (D.past disk.new) ⊎ IsMoved (name_of_draft self.old.name) self.old.name (D.past disk.old) (D.past disk.new)) }
+        ensures memory { IsTrue D.tells → IsErrOf result LogErr.Memory → IsKept (name_of_draft self.old.name) self.old.name (D.past disk.old) (D.past disk.new) }
+        ensures others { IsTrue D.tells → (other : List ℕ) → other ≢ self.old.name → other ≢ name_of_draft self.old.name → reads (D.past disk.new) other ≡ reads (D.past disk.old) other }
+        ensures only { OnlyFileOrMemory result }
+        ensures cause { LogCause (D.faults disk.old) (D.faults disk.new) (D.blamed disk.new) result }
+    {
+        self.sync(disk)?;
+        told(self.file, disk.rename(self.file, self.name))?;
+        told(self.name, disk.sync_dir())?;
+        self.file = self.name;
+        self.draft = false;
+        Ok(())
+    }
+
+    /// Puts whole small items, one behind the other as `put_item` makes them, behind those of the file. A log that is
+    /// published and says closed is marked open first.
+    pub fn append<D: Disk>(&mut self, disk: &mut D, items: &[u8]) -> Result<(), LogErr>
+        requires log { IsTrue D.tells → IsLog (D.past disk.old) self.old }
+        requires items { AreItems items.now }
+        ensures log { OnOk result (self.new ≡ opened self.old) }
+        ensures err { OnErr result ((self.new ≡ self.old) ⊎ (self.new ≡ opened self.old)) }
+        ensures appended { (all more : List (List ℕ)) → IsTrue D.tells → items.now ≡ wire more → reads (D.past disk.old) (file_of self.old) ≡ Some (log_bytes self.old.closed all)
+            → HasAppended result self.new.closed (opened self.old).closed all more (reads (D.past disk.new) (file_of self.old)) }
+        ensures others { IsTrue D.tells → (other : List ℕ) → other ≢ file_of self.old → reads (D.past disk.new) other ≡ reads (D.past disk.old) other }
+        ensures only { OnlyFileOrMemory result }
+        ensures cause { LogCause (D.faults disk.old) (D.faults disk.new) (D.blamed disk.new) result }
+    {
+        let closed = mark_to_append(self.draft, self.closed);
+        self.set_mark(disk, closed)?;
+        told(self.file, disk.append(self.file, items))
+    }
+
+    /// Makes all that was appended durable.
+    pub fn sync<D: Disk>(&mut self, disk: &mut D) -> Result<(), LogErr>
+        requires { IsTrue D.tells → IsThere (D.past disk.old) (file_of self.old) }
+        ensures log { self.new ≡ self.old }
+        ensures same { IsTrue D.tells → (other : List ℕ) → reads (D.past disk.new) other ≡ reads (D.past disk.old) other }
+        ensures only { OnlyFile result }
+        ensures cause { LogCause (D.faults disk.old) (D.faults disk.new) (D.blamed disk.new) result }
+    {
+        told(self.file, disk.sync(self.file))
+    }
+
+    /// Marks the file closed where it is not, and makes it durable.
+    pub fn close<D: Disk>(&mut self, disk: &mut D) -> Result<(), LogErr>
+        requires { IsTrue D.tells → IsLog (D.past disk.old) self.old }
+        ensures log { OnOk result (self.new ≡ with_mark true self.old) }
+        ensures err { OnErr result ((self.new ≡ self.old) ⊎ (self.new ≡ with_mark true self.old)) }
+        ensures closed { (all : List (List ℕ)) → IsTrue D.tells → reads (D.past disk.old) (file_of self.old) ≡ Some (log_bytes self.old.closed all)
+            → HasMarked result self.old.closed true all (reads (D.past disk.new) (file_of self.old)) }
+        ensures others { IsTrue D.tells → (other : List ℕ) → other ≢ file_of self.old → reads (D.past disk.new) other ≡ reads (D.past disk.old) other }
+        ensures only { OnlyFileOrMemory result }
+        ensures cause { LogCause (D.faults disk.old) (D.faults disk.new) (D.blamed disk.new) result }
+    {
+        self.set_mark(disk, true)?;
+        self.sync(disk)
+    }
+
+    /// The log of this name, none where there is no file. One that is not closed is refused as `Bad` at its mark, and
+    /// anything else that is no log at its first wrong place. The disk stays as it is.
+    pub fn resume<D: Disk>(
+        alloc: Global,
+        disk: &mut D,
+        name: FileName,
+    ) -> Result<Option<Log>, LogErr>
+        ensures found { IsTrue D.tells → Finds result (reads (D.past disk.old) name) }
+        ensures log { IfOk result (λ found. IfSome found (λ log. log ≡ record { name = name; draft = false; closed = true })) }
+        ensures bad { (other : List ℕ) (at : ℕ) → IsErrOf result (LogErr.Bad other at) → other ≡ name }
+        ensures never { IsErrOf result LogErr.TooLong → ⊥ }
+        ensures same { IsTrue D.tells → D.past disk.new ≡ D.past disk.old }
+        ensures cause { LogCause (D.faults disk.old) (D.faults disk.new) (D.blamed disk.new) result }
+    {
+        let Some(bytes) = read_file(alloc, disk, name)? else {
+            return Ok(None);
+        };
+        if let Some(at) = bad_place(&bytes) {
+            return Err(LogErr::Bad(name, at as u64));
+        }
+        Ok(Some(Log {
+            name,
+            file: name,
+            draft: false,
+            closed: true,
+        }))
+    }
+
+    // Sets the file's mark where it is another.
+    fn set_mark<D: Disk>(&mut self, disk: &mut D, closed: bool) -> Result<(), LogErr>
+        requires { IsTrue D.tells → IsLog (D.past disk.old) self.old }
+        ensures log { OnOk result (self.new ≡ with_mark closed self.old) }
+        ensures err { OnErr result (self.new ≡ self.old) }
+        ensures marked { (all : List (List ℕ)) → IsTrue D.tells → reads (D.past disk.old) (file_of self.old) ≡ Some (log_bytes self.old.closed all)
+            → HasMarked result self.old.closed closed all (reads (D.past disk.new) (file_of self.old)) }
+        ensures others { IsTrue D.tells → (other : List ℕ) → other ≢ file_of self.old → reads (D.past disk.new) other ≡ reads (D.past disk.old) other }
+        ensures only { OnlyFileOrMemory result }
+        ensures cause { LogCause (D.faults disk.old) (D.faults disk.new) (D.blamed disk.new) result }
+    {
+        if self.closed == closed {
+            return Ok(());
+        }
+        told(self.file, disk.mark(self.file, mark_bytes(closed)))?;
+        self.closed = closed;
+        Ok(())
+    }
+}
+
+// The mark that a log has while it grows: only a draft stays closed.
+fn mark_to_append(draft: bool, closed: bool) -> bool
+    ensures { result ≡ (draft && closed) }
+{
+    draft && closed
+}
+
+// The four bytes of a mark.
+fn mark_bytes(closed: bool) -> [u8; 4]
+    ensures { result ≡ bytes_of_mark closed }
+{
+    if closed {
+        [99, 88, 77, 11]
+    } else {
+        [6, 7, 8, 9]
+    }
+}
+
+// The name with TMP behind it.
+fn draft_name(name: FileName) -> FileName
+    requires short { length name ≤ 77 }
+    requires valid { IsName name }
+    ensures { result ≡ name_of_draft name }
+{
+    let bytes = name.bytes();
+    let text = with_tmp(bytes);
+    named(&text[..bytes.len() + 3])
+}
+
+// The bytes and TMP, with zeros behind them.
+fn with_tmp(bytes: &[u8]) -> [u8; 80]
+    requires { length bytes.now ≤ 77 }
+    ensures { take (length bytes.now + 3) result ≡ name_of_draft bytes.now }
+{
+    let mut text = [0; 80];
+    let len = bytes.len();
+    text[..len].copy_from_slice(bytes);
+    text[len..len + 3].copy_from_slice(b"TMP");
+    text
+}
+
+fn named(text: &[u8]) -> FileName
+    requires { IsName text.now }
+    ensures { result ≡ text.now }
+{
+    FileName::new(text).unwrap()
+}
+
+// The bytes of a closed file with this item.
+fn draft_bytes(alloc: Global, head_item: &[u8]) -> Result<Vec<u8>, AllocError>
+    requires { IsSmall head_item.now }
+    ensures { IfOk result (λ bytes. bytes.items ≡ log_bytes true (head_item.now ∷ [])) }
+{
+    let mut bytes = Vec::from_slice(alloc, &CLOSED_HEAD)?;
+    put_item(head_item, &mut bytes)?;
+    Ok(bytes)
+}
+
+// Removes a file where it is there.
+fn clear<D: Disk>(disk: &mut D, name: FileName) -> Result<(), LogErr>
+    ensures gone { IsTrue D.tells → OnOk result (IsAbsent (D.past disk.new) name) }
+    ensures left { IsTrue D.tells → OnErr result ((reads (D.past disk.new) name ≡ reads (D.past disk.old) name) ⊎ IsAbsent (D.past disk.new) name) }
+    ensures others { IsTrue D.tells → (other : List ℕ) → other ≢ name → reads (D.past disk.new) other ≡ reads (D.past disk.old) other }
+    ensures only { OnlyFileOrMemory result }
+    ensures cause { LogCause (D.faults disk.old) (D.faults disk.new) (D.blamed disk.new) result }
+{
+    match told(name, disk.len(name))? {
+        Some(_) => told(name, disk.remove(name)),
+        None => Ok(()),
+    }
+}

@@ -1,0 +1,91 @@
+ghost use Rattle.std.specs.Prelude.{◌≤◌, length, IfOk, OnOk};
+ghost use Rattle.file_trait.specs.MemDisk.{disk_past};
+ghost use Rattle.file_trait.specs.Name.{IsName};
+ghost use Rattle.disk_logs.specs.Items.{IsSmall};
+ghost use Rattle.disk_logs.specs.Logs.{IsLog};
+
+use crate::{Chunk, Log, LogErr, chunk, put_item};
+use file_trait::{FileName, MemDisk};
+use std::alloc::Global;
+use std::test::Fail;
+
+const HEAD: [u8; 9] = [131, 104, 1, 119, 4, 108, 111, 103, 49];
+
+fn published(alloc: Global, disk: &mut MemDisk, name: FileName) -> Result<Log, LogErr>
+    requires short { length name ≤ 77 }
+    requires valid { IsName name }
+    ensures { IfOk result (IsLog (disk_past disk.new)) }
+{
+    let mut log = Log::draft(alloc, disk, name, &HEAD)?;
+    log.publish(disk)?;
+    Ok(log)
+}
+
+fn put(alloc: Global, disk: &mut MemDisk, log: &mut Log, content: &[u8]) -> Result<(), LogErr>
+    requires log { IsLog (disk_past disk.old) log.old }
+    requires small { IsSmall content.now }
+    ensures { OnOk result (IsLog (disk_past disk.new) log.new) }
+{
+    let mut item = Vec::new(alloc);
+    put_item(content, &mut item)?;
+    log.append(disk, &item)?;
+    log.sync(disk)
+}
+
+fn first_two(alloc: Global, disk: &mut MemDisk, name: FileName) -> Result<Chunk, LogErr> {
+    match Log::resume(alloc, disk, name)? {
+        Some(_) => chunk(alloc, disk, name, 8, 2),
+        None => Err(LogErr::Bad(name, 0)),
+    }
+}
+
+#[test]
+fn a_log_is_written_and_read_back(rt: HostRuntime) -> Result<(), Fail> {
+    let name = FileName::new(b"LATEST.LOG").ok_or("name")?;
+    let mut disk = MemDisk::new(rt.alloc());
+    let mut log = published(rt.alloc(), &mut disk, name)?;
+    let drafted = [
+        1, 2, 3, 4, 99, 88, 77, 11, 0, 0, 0, 9, 12, 44, 55, 66, 131, 104, 1, 119, 4, 108, 111, 103,
+        49,
+    ];
+    assert_eq!(rt; disk.contents(name), Some(drafted.as_slice()));
+    put(rt.alloc(), &mut disk, &mut log, b"one")?;
+    put(rt.alloc(), &mut disk, &mut log, b"one")?;
+    log.close(&mut disk)?;
+    let closed = [
+        1, 2, 3, 4, 99, 88, 77, 11, 0, 0, 0, 9, 12, 44, 55, 66, 131, 104, 1, 119, 4, 108, 111, 103,
+        49, 0, 0, 0, 3, 12, 44, 55, 66, 111, 110, 101, 0, 0, 0, 3, 12, 44, 55, 66, 111, 110, 101,
+    ];
+    assert_eq!(rt; disk.contents(name), Some(closed.as_slice()));
+    let read = first_two(rt.alloc(), &mut disk, name)?;
+    assert_eq!(rt; read.items.len(), 2);
+    assert_eq!(rt; read.items.get(0), Some(HEAD.as_slice()));
+    assert_eq!(rt; read.items.get(1), Some(b"one".as_slice()));
+    assert_eq!(rt; read.places.as_slice(), [8, 25].as_slice());
+    assert_eq!(rt; (read.next, read.ended), (36, false));
+    Ok(())
+}
+
+#[test]
+fn the_first_wrong_place_is_found(rt: HostRuntime) -> Result<(), Fail> {
+    let name = FileName::new(b"LATEST.LOG").ok_or("name")?;
+    let cut: [u8; 27] = [
+        1, 2, 3, 4, 99, 88, 77, 11, 0, 0, 0, 1, 12, 44, 55, 66, 7, 0, 0, 0, 3, 12, 44, 55, 66, 111,
+        110,
+    ];
+    let table = [
+        (&cut[..3], 0),
+        ([1, 2, 3, 5].as_slice(), 0),
+        ([1, 2, 3, 4, 6, 7, 8, 10].as_slice(), 4),
+        (cut.as_slice(), 17),
+    ];
+    for (bytes, wrong) in table {
+        let mut disk = MemDisk::new(rt.alloc());
+        disk.put_file(name, bytes)?;
+        match Log::resume(rt.alloc(), &mut disk, name) {
+            Err(LogErr::Bad(_, at)) => assert_eq!(rt; at, wrong),
+            _ => assert!(rt; false),
+        }
+    }
+    Ok(())
+}

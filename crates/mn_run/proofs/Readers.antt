@@ -1,0 +1,253 @@
+-- Readers of whole lines, made of one part after the other.
+use Rattle.std.proofs.Common.{◌≡◌, ℕ, Bool, true, false, eqb, List, [], ◌∷◌, ◌++◌, length, Result, Ok, Err, refl, sym, ap, subst, ◌∙◌, append_assoc, arith}
+use Rattle.std.proofs.lemmas.Bool.{eqb-true, eq-eqb, ne_eqb}
+use Rattle.term_core.specs.Tree.{Tree}
+use Rattle.mn_run.specs.Commands.{◌>>=◌, text_at, at_end, field_at}
+use Rattle.mn_run.specs.Grammar.{IsField, IsLarge}
+use Rattle.mn_run.proofs.Fields.{Stops, Stops-first, field_read, field_again, FieldDone, FieldLarge, FieldRefuses, field_refused}
+use Rattle.mn_run.proofs.Refusals.{Why, more_due, other_byte, too_large, Refusal, ok_is, bind_ok, BindErr, at_first, at_second, bind_err}
+
+-- some value is read from the text
+abbrev pub Done : {Y : Type 0} → (List ℕ → Y → Type 0) → List ℕ → Type 0
+Done {Y} Line text = (y : Y) × Line text y
+
+abbrev pub Refuses : {Y : Type 0} → (List ℕ → Result Y ℕ) → List ℕ → ℕ → Type 0
+Refuses read line left = read line ≡ Err left
+
+-- A reader finds a value just in the lines that are its, and says of others where they go wrong.
+pub record IsReader {Y : Type 0} (read : List ℕ → Result Y ℕ) (Line : List ℕ → Y → Type 0) (Large : List ℕ → List ℕ → Type 0) : Type 0 where
+  pub found : (line : List ℕ) (y : Y) → read line ≡ Ok y → Line line y
+  pub again : (line : List ℕ) (y : Y) → Line line y → read line ≡ Ok y
+  pub refused : (line : List ℕ) (left : ℕ) → read line ≡ Err left → Refusal (Done Line) Large (Refuses read) line left
+  pub sample : (text : List ℕ) × Done Line text
+
+-- ---- the end
+
+abbrev pub AtEnd : {Y : Type 0} → Y → List ℕ → Y → Type 0
+AtEnd x line y = (line ≡ []) × (x ≡ y)
+
+abbrev pub NoneLarge : List ℕ → List ℕ → Type 0
+NoneLarge front rest = ⊥
+
+at_end-cons : {Y : Type 0} (x : Y) (c : ℕ) (rest : List ℕ) → at_end x (c ∷ rest) ≡ Err (length (c ∷ rest))
+at_end-cons x c rest = let more : eqb (length (c ∷ rest)) 0 ≡ false = ne_eqb _ _ (λ same. absurd (omega arith)) in rw more refl
+
+pub end_reader : {Y : Type 0} (x : Y) → IsReader (at_end x) (AtEnd x) NoneLarge
+end_reader {Y} x = record { found = found; again = again; refused = refused; sample = ([], (x, (refl, refl))) }
+  where
+    found : (line : List ℕ) (y : Y) → at_end x line ≡ Ok y → AtEnd x line y
+    found [] y e = (refl, ok_is x y e)
+    found (c ∷ rest) y e = let other = at_end-cons x c rest in absurd cc
+
+    again : (line : List ℕ) (y : Y) → AtEnd x line y → at_end x line ≡ Ok y
+    again line y h = ap (at_end x) h.0 ∙ ap Ok h.1
+
+    refused : (line : List ℕ) (left : ℕ) → at_end x line ≡ Err left → Refusal (Done (AtEnd x)) NoneLarge (Refuses (at_end x)) line left
+    refused [] left e = absurd cc
+    refused (c ∷ rest) left e = record {
+      front = [];
+      rest = c ∷ rest;
+      parts = refl;
+      counted = let other = at_end-cons x c rest in cc;
+      tail = [];
+      completes = (x, (refl, refl));
+      why = other_byte c rest refl (λ tail. at_end-cons x c tail);
+    }
+
+-- ---- a text, and what follows it
+
+abbrev pub Behind : {Y : Type 0} → List ℕ → (List ℕ → Y → Type 0) → List ℕ → Y → Type 0
+Behind text Line line y = (rest : List ℕ) × (line ≡ text ++ rest) × Line rest y
+
+abbrev pub behind : {Y : Type 0} → List ℕ → (List ℕ → Result Y ℕ) → List ℕ → Result Y ℕ
+behind text read line = text_at text line >>= read
+
+-- how a number that is too large follows from one behind the text
+abbrev pub Moves : List ℕ → (List ℕ → List ℕ → Type 0) → (List ℕ → List ℕ → Type 0) → Type 0
+Moves text Large Large' = (front rest : List ℕ) → Large front rest → Large' (text ++ front) rest
+
+same_first : {Y : Type 0} (b c : ℕ) (text line : List ℕ) (read : List ℕ → Result Y ℕ) → eqb b c ≡ true → behind (b ∷ text) read (c ∷ line) ≡ behind text read line
+unfolding text_at
+same_first b c text line read e = rw e refl
+
+other_first : {Y : Type 0} (b c : ℕ) (text line : List ℕ) (read : List ℕ → Result Y ℕ) → eqb b c ≡ false → behind (b ∷ text) read (c ∷ line) ≡ Err (length (c ∷ line))
+unfolding text_at
+other_first b c text line read e = rw e refl
+
+empty_text : {Y : Type 0} (read : List ℕ → Result Y ℕ) (line : List ℕ) → behind [] read line ≡ read line
+unfolding text_at
+empty_text read line = refl
+
+no_line : {Y : Type 0} (b : ℕ) (text : List ℕ) (read : List ℕ → Result Y ℕ) → behind (b ∷ text) read [] ≡ Err 0
+unfolding text_at
+no_line b text read = refl
+
+empty_reader : {Y : Type 0} (read : List ℕ → Result Y ℕ) (Line : List ℕ → Y → Type 0) (Large Large' : List ℕ → List ℕ → Type 0) → Moves [] Large Large' → IsReader read Line Large → IsReader (behind [] read) (Behind [] Line) Large'
+empty_reader {Y} read Line Large Large' moves reader = record {
+  found = λ line y e. (line, refl, reader.found line y (sym (empty_text read line) ∙ e));
+  again = λ line y h. empty_text read line ∙ reader.again line y (subst (λ (t : List ℕ). Line t y) (sym h.1) h.2);
+  refused = λ line left e. refusal line left (reader.refused line left (sym (empty_text read line) ∙ e));
+  sample = (reader.sample.0, (reader.sample.1.0, (reader.sample.0, refl, reader.sample.1.1)));
+}
+  where
+    reason : (front rest : List ℕ) → Why Large (Refuses read) front rest → Why Large' (Refuses (behind [] read)) front rest
+    reason front rest (more_due none) = more_due none
+    reason front rest (other_byte c after parts refuses) = other_byte c after parts (λ tail. empty_text read (front ++ c ∷ tail) ∙ refuses tail)
+    reason front rest (too_large large) = too_large (moves front rest large)
+
+    refusal : (line : List ℕ) (left : ℕ) → Refusal (Done Line) Large (Refuses read) line left → Refusal (Done (Behind [] Line)) Large' (Refuses (behind [] read)) line left
+    refusal line left r = record {
+      front = r.front;
+      rest = r.rest;
+      parts = r.parts;
+      counted = r.counted;
+      tail = r.tail;
+      completes = (r.completes.0, (r.front ++ r.tail, refl, r.completes.1));
+      why = reason r.front r.rest r.why;
+    }
+
+byte_reader : {Y : Type 0} (b : ℕ) (text : List ℕ) (read : List ℕ → Result Y ℕ) (Line : List ℕ → Y → Type 0) (Large : List ℕ → List ℕ → Type 0) → IsReader (behind text read) (Behind text Line) (λ front rest. Large (b ∷ front) rest) → IsReader (behind (b ∷ text) read) (Behind (b ∷ text) Line) Large
+byte_reader {Y} b text read Line Large reader = record { found = found; again = again; refused = refused; sample = (b ∷ reader.sample.0, whole reader.sample.0 reader.sample.1) }
+  where
+    longer : (line : List ℕ) (y : Y) → Behind text Line line y → Behind (b ∷ text) Line (b ∷ line) y
+    longer line y h = (h.0, ap (λ (t : List ℕ). b ∷ t) h.1, h.2)
+
+    whole : (line : List ℕ) → Done (Behind text Line) line → Done (Behind (b ∷ text) Line) (b ∷ line)
+    whole line h = (h.0, longer line h.0 h.1)
+
+    found : (line : List ℕ) (y : Y) → behind (b ∷ text) read line ≡ Ok y → Behind (b ∷ text) Line line y
+    found [] y e = let none = no_line b text read in absurd cc
+    found (c ∷ line) y e = by (eqb b c) refl
+      where
+        by : (t : Bool) → eqb b c ≡ t → Behind (b ∷ text) Line (c ∷ line) y
+        by true same = subst (λ (x : ℕ). Behind (b ∷ text) Line (x ∷ line) y) (eqb-true b c same) (longer line y (reader.found line y (sym (same_first b c text line read same) ∙ e)))
+        by false same = let other = other_first b c text line read same in absurd cc
+
+    again : (line : List ℕ) (y : Y) → Behind (b ∷ text) Line line y → behind (b ∷ text) read line ≡ Ok y
+    again line y h = ap (behind (b ∷ text) read) h.1 ∙ same_first b b text (text ++ h.0) read (eq-eqb b b refl) ∙ reader.again (text ++ h.0) y (h.0, refl, h.2)
+
+    reason : (front rest : List ℕ) → Why (λ front rest. Large (b ∷ front) rest) (Refuses (behind text read)) front rest → Why Large (Refuses (behind (b ∷ text) read)) (b ∷ front) rest
+    reason front rest (more_due none) = more_due none
+    reason front rest (other_byte c after parts refuses) = other_byte c after parts (λ tail. same_first b b text (front ++ c ∷ tail) read (eq-eqb b b refl) ∙ refuses tail)
+    reason front rest (too_large large) = too_large large
+
+    refusal : (line : List ℕ) (left : ℕ) → Refusal (Done (Behind text Line)) (λ front rest. Large (b ∷ front) rest) (Refuses (behind text read)) line left → Refusal (Done (Behind (b ∷ text) Line)) Large (Refuses (behind (b ∷ text) read)) (b ∷ line) left
+    refusal line left r = record {
+      front = b ∷ r.front;
+      rest = r.rest;
+      parts = ap (λ (t : List ℕ). b ∷ t) r.parts;
+      counted = r.counted;
+      tail = r.tail;
+      completes = whole (r.front ++ r.tail) r.completes;
+      why = reason r.front r.rest r.why;
+    }
+
+    refused : (line : List ℕ) (left : ℕ) → behind (b ∷ text) read line ≡ Err left → Refusal (Done (Behind (b ∷ text) Line)) Large (Refuses (behind (b ∷ text) read)) line left
+    refused [] left e = record {
+      front = [];
+      rest = [];
+      parts = refl;
+      counted = let none = no_line b text read in cc;
+      tail = b ∷ reader.sample.0;
+      completes = whole reader.sample.0 reader.sample.1;
+      why = more_due refl;
+    }
+    refused (c ∷ line) left e = by (eqb b c) refl
+      where
+        by : (t : Bool) → eqb b c ≡ t → Refusal (Done (Behind (b ∷ text) Line)) Large (Refuses (behind (b ∷ text) read)) (c ∷ line) left
+        by true same =
+            subst (λ (x : ℕ). Refusal (Done (Behind (b ∷ text) Line)) Large (Refuses (behind (b ∷ text) read)) (x ∷ line) left) (eqb-true b c same)
+            (refusal line left (reader.refused line left (sym (same_first b c text line read same) ∙ e)))
+        by false same = record {
+          front = [];
+          rest = c ∷ line;
+          parts = refl;
+          counted = let other = other_first b c text line read same in cc;
+          tail = b ∷ reader.sample.0;
+          completes = whole reader.sample.0 reader.sample.1;
+          why = other_byte c line refl (λ tail. other_first b c text tail read same);
+        }
+
+pub text_reader : {Y : Type 0} (text : List ℕ) (read : List ℕ → Result Y ℕ) (Line : List ℕ → Y → Type 0) (Large Large' : List ℕ → List ℕ → Type 0) → Moves text Large Large' → IsReader read Line Large → IsReader (behind text read) (Behind text Line) Large'
+text_reader [] read Line Large Large' moves reader = empty_reader read Line Large Large' moves reader
+text_reader (b ∷ text) read Line Large Large' moves reader =
+    byte_reader b text read Line Large' (text_reader text read Line Large (λ front rest. Large' (b ∷ front) rest) moves reader)
+
+-- ---- a key or a value, and what follows it
+
+abbrev pub BehindField : {Y : Type 0} → (Tree → List ℕ → Y → Type 0) → List ℕ → Y → Type 0
+BehindField Line line y = (text : List ℕ) × (t : Tree) × IsField text t × (rest : List ℕ) × (line ≡ text ++ rest) × Line t rest y
+
+abbrev pub behind_field : {Y : Type 0} → (Tree → List ℕ → Result Y ℕ) → List ℕ → Result Y ℕ
+behind_field read line = field_at line >>= λ x. read x.0 x.1
+
+-- how a number that is too large follows from one that begins the line, or from one behind the field
+pub record MovesField (Large : Tree → List ℕ → List ℕ → Type 0) (Large' : List ℕ → List ℕ → Type 0) : Type 0 where
+  pub here : (text more rest : List ℕ) → IsLarge text → rest ≡ text ++ more → Large' [] rest
+  pub there : (text : List ℕ) (t : Tree) (front rest : List ℕ) → IsField text t → Large t front rest → Large' (text ++ front) rest
+
+pub field_reader : {Y : Type 0} (read : Tree → List ℕ → Result Y ℕ) (Line : Tree → List ℕ → Y → Type 0) (Large : Tree → List ℕ → List ℕ → Type 0) (Large' : List ℕ → List ℕ → Type 0)
+    → ((t : Tree) → IsReader (read t) (Line t) (Large t)) → ((t : Tree) (rest : List ℕ) (y : Y) → Line t rest y → Stops t rest) → MovesField Large Large'
+    → (text : List ℕ) (t : Tree) → IsField text t
+    → IsReader (behind_field read) (BehindField Line) Large'
+field_reader {Y} read Line Large Large' reader follows moves some_text some_tree some_field =
+    record { found = found; again = again; refused = refused; sample = (some_text ++ (reader some_tree).sample.0, whole some_text some_tree some_field) }
+  where
+    whole : (text : List ℕ) (t : Tree) → IsField text t → Done (BehindField Line) (text ++ (reader t).sample.0)
+    whole text t is = ((reader t).sample.1.0, (text, t, is, (reader t).sample.0, refl, (reader t).sample.1.1))
+
+    found : (line : List ℕ) (y : Y) → behind_field read line ≡ Ok y → BehindField Line line y
+    found line y e =
+        let step = bind_ok (field_at line) (λ x. read x.0 x.1) y e in
+        let field = field_read line step.0.0 step.0.1 step.1 in
+        (field.text, step.0.0, field.is, step.0.1, field.parts, (reader step.0.0).found step.0.1 y step.2)
+
+    again_at : (text : List ℕ) (t : Tree) (rest : List ℕ) → IsField text t → Stops t rest → behind_field read (text ++ rest) ≡ read t rest
+    again_at text t rest is stops = ap (λ (r : Result (Tree × List ℕ) ℕ). r >>= λ x. read x.0 x.1) (field_again text rest t is stops)
+
+    again : (line : List ℕ) (y : Y) → BehindField Line line y → behind_field read line ≡ Ok y
+    again line y (text, t, is, rest, parts, h) = ap (behind_field read) parts ∙ again_at text t rest is (follows t rest y h) ∙ (reader t).again rest y h
+
+    reason_here : (front rest : List ℕ) → Why FieldLarge FieldRefuses front rest → Why Large' (Refuses (behind_field read)) front rest
+    reason_here front rest (more_due none) = more_due none
+    reason_here front rest (other_byte c after parts refuses) = other_byte c after parts (λ tail. ap (λ (r : Result (Tree × List ℕ) ℕ). r >>= λ x. read x.0 x.1) (refuses tail))
+    reason_here front rest (too_large (none, text, more, large, parts)) = too_large (subst (λ (x : List ℕ). Large' x rest) (sym none) (moves.here text more rest large parts))
+
+    refusal_here : (line : List ℕ) (left : ℕ) → Refusal FieldDone FieldLarge FieldRefuses line left → Refusal (Done (BehindField Line)) Large' (Refuses (behind_field read)) line left
+    refusal_here line left r = record {
+      front = r.front;
+      rest = r.rest;
+      parts = r.parts;
+      counted = r.counted;
+      tail = r.tail ++ (reader r.completes.0).sample.0;
+      completes = subst (Done (BehindField Line)) (append_assoc r.front r.tail (reader r.completes.0).sample.0) (whole (r.front ++ r.tail) r.completes.0 r.completes.1);
+      why = reason_here r.front r.rest r.why;
+    }
+
+    reason_there : (text : List ℕ) (t : Tree) (front rest : List ℕ) → IsField text t → Stops t (front ++ rest) → Why (Large t) (Refuses (read t)) front rest → Why Large' (Refuses (behind_field read)) (text ++ front) rest
+    reason_there text t front rest is stops (more_due none) = more_due none
+    reason_there text t front rest is stops (other_byte c after parts refuses) =
+        let stops_at : Stops t (front ++ c ∷ after) = subst (λ (x : List ℕ). Stops t (front ++ x)) parts stops in
+        other_byte c after parts
+        (λ tail. ap (behind_field read) (append_assoc text front (c ∷ tail)) ∙ again_at text t (front ++ c ∷ tail) is (Stops-first t front c after tail stops_at) ∙ refuses tail)
+    reason_there text t front rest is stops (too_large large) = too_large (moves.there text t front rest is large)
+
+    refusal_there : (line text : List ℕ) (t : Tree) (rest : List ℕ) (left : ℕ) → IsField text t → line ≡ text ++ rest → Stops t rest → Refusal (Done (Line t)) (Large t) (Refuses (read t)) rest left → Refusal (Done (BehindField Line)) Large' (Refuses (behind_field read)) line left
+    refusal_there line text t rest left is parts stops r = record {
+      front = text ++ r.front;
+      rest = r.rest;
+      parts = parts ∙ ap (λ (x : List ℕ). text ++ x) r.parts ∙ sym (append_assoc text r.front r.rest);
+      counted = r.counted;
+      tail = r.tail;
+      completes = (r.completes.0, (text, t, is, r.front ++ r.tail, append_assoc text r.front r.tail, r.completes.1));
+      why = reason_there text t r.front r.rest is (subst (λ (x : List ℕ). Stops t x) r.parts stops) r.why;
+    }
+
+    refused : (line : List ℕ) (left : ℕ) → behind_field read line ≡ Err left → Refusal (Done (BehindField Line)) Large' (Refuses (behind_field read)) line left
+    refused line left e = by (bind_err (field_at line) (λ x. read x.0 x.1) left e)
+      where
+        by : BindErr (field_at line) (λ x. read x.0 x.1) left → Refusal (Done (BehindField Line)) Large' (Refuses (behind_field read)) line left
+        by (at_first e) = refusal_here line left (field_refused line left e)
+        by (at_second x e f) =
+            let field = field_read line x.0 x.1 e in
+            refusal_there line field.text x.0 x.1 left field.is field.parts field.stops ((reader x.0).refused x.1 left f)

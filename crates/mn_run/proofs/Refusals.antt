@@ -1,0 +1,37 @@
+-- What a reader that refuses a line says of it.
+use Rattle.std.proofs.Common.{◌≡◌, ℕ, List, [], ◌∷◌, ◌++◌, length, Result, Ok, Err, refl}
+use Rattle.mn_run.specs.Commands.{◌>>=◌}
+
+-- why the bytes behind the front are refused
+pub data Why (Large : List ℕ → List ℕ → Type 0) (Refuses : List ℕ → ℕ → Type 0) (front rest : List ℕ) : Type 0 where
+  more_due : rest ≡ [] → Why Large Refuses front rest
+  other_byte : (c : ℕ) (after : List ℕ) → rest ≡ c ∷ after → ((tail : List ℕ) → Refuses (front ++ c ∷ tail) (length (c ∷ tail))) → Why Large Refuses front rest
+  too_large : Large front rest → Why Large Refuses front rest
+
+-- The front may still become a text that is Done.
+pub record Refusal (Done : List ℕ → Type 0) (Large : List ℕ → List ℕ → Type 0) (Refuses : List ℕ → ℕ → Type 0) (line : List ℕ) (left : ℕ) : Type 0 where
+  pub front : List ℕ
+  pub rest : List ℕ
+  pub parts : line ≡ front ++ rest
+  pub counted : left ≡ length rest
+  pub tail : List ℕ
+  pub completes : Done (front ++ tail)
+  pub why : Why Large Refuses front rest
+
+-- ---- results
+
+pub ok_is : {A : Type 0} (x y : A) → (let r : Result A ℕ = Ok x in r) ≡ Ok y → x ≡ y
+ok_is x y e = cc
+
+pub bind_ok : {A B : Type 0} (r : Result A ℕ) (f : A → Result B ℕ) (y : B) → (r >>= f) ≡ Ok y → (x : A) × (r ≡ Ok x) × (f x ≡ Ok y)
+bind_ok (Ok x) f y e = (x, refl, e)
+bind_ok (Err d) f y e = absurd cc
+
+-- refused by the first step, or by the second
+pub data BindErr {A B : Type 0} (r : Result A ℕ) (f : A → Result B ℕ) (left : ℕ) : Type 0 where
+  at_first : r ≡ Err left → BindErr r f left
+  at_second : (x : A) → r ≡ Ok x → f x ≡ Err left → BindErr r f left
+
+pub bind_err : {A B : Type 0} (r : Result A ℕ) (f : A → Result B ℕ) (left : ℕ) → (r >>= f) ≡ Err left → BindErr r f left
+bind_err (Ok x) f left e = at_second x refl e
+bind_err (Err d) f left e = at_first cc

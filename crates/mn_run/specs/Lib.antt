@@ -1,0 +1,16 @@
+pub mod Commands
+pub mod Commits
+pub mod Files
+pub mod Grammar
+pub mod Lines
+pub mod Machine
+pub mod Orders
+pub mod Reading
+pub mod Replies
+pub mod Runs
+pub mod Script
+pub mod Seen
+pub mod Statuses
+pub mod Steps
+pub mod Tables
+pub mod Words

@@ -1,0 +1,97 @@
+//! What the lines ask for.
+
+ghost use Rattle.std.specs.Prelude.{◌≡◌, ◌≤◌, ◌+◌, ◌++◌, ◌∷◌, length, IsTrue, IfOk, IfErr};
+ghost use Rattle.mn_run.specs.Lines.{lines_of};
+ghost use Rattle.mn_run.specs.Script.{plan_from};
+ghost use Rattle.mn_run.specs.Runs.{Asks, AsksRowAt, Goes, Causes, IsOfReading};
+
+use crate::Status;
+use crate::commands::{Command, read_command};
+use crate::lines::{LineErr, Lines, MOST_LINE};
+use file_trait::Source;
+use std::alloc::Global;
+
+/// The most lines of a script.
+pub const MOST_LINES: u64 = 2_000_000;
+
+/// The most commands of a script.
+pub const MOST_COMMANDS: u64 = 1_000_000;
+
+#[derive(Drop)]
+pub enum Ask {
+    End,
+    Blank,
+    Do(Command),
+}
+
+/// How many lines and commands there were.
+#[derive(Clone, Copy, Debug, PartialEq, Eq)]
+pub struct Place {
+    pub lines: u64,
+    pub commands: u64,
+}
+
+/// What the next line asks for.
+pub fn next_ask<S: Source>(
+    alloc: Global,
+    lines: &mut Lines,
+    line: &mut Vec<u8>,
+    script: &mut S,
+    place: &mut Place,
+) -> Result<Ask, Status>
+    requires within { place.old.lines ≤ MOST_LINES }
+    requires few { place.old.commands ≤ MOST_COMMANDS }
+    ensures asks { IsTrue S.tells → Asks result
+        (plan_from place.old.lines place.old.commands (lines_of (lines.old ++ S.left script.old)))
+        (plan_from place.new.lines place.new.commands (lines_of (lines.new ++ S.left script.new))) }
+    ensures row { IfOk result AsksRowAt }
+    ensures cause { Causes Status.ReadFault (S.faults script.old) (S.faults script.new) result }
+    ensures only { IfErr result IsOfReading }
+    ensures goes { IfOk result (λ ask. Goes ask place.old.lines place.new.lines place.old.commands place.new.commands) }
+    ensures within { place.new.lines ≤ MOST_LINES }
+    ensures few { place.new.commands ≤ MOST_COMMANDS }
+{
+    match lines.next_line(script, line) {
+        Ok(true) => ask_of(alloc, line, place),
+        Ok(false) => Ok(Ask::End),
+        Err(LineErr::Failed) => Err(Status::ReadFault),
+        Err(LineErr::TooLong) => Err(Status::TooLong(place.lines + 1)),
+        Err(LineErr::Memory) => Err(Status::Memory),
+    }
+}
+
+/// What a line asks for that comes after so many.
+fn ask_of(alloc: Global, line: &[u8], place: &mut Place) -> Result<Ask, Status>
+    requires within { place.old.lines ≤ MOST_LINES }
+    requires few { place.old.commands ≤ MOST_COMMANDS }
+    requires short { length line.now ≤ MOST_LINE }
+    ensures asks { (later : _) → Asks result
+        (plan_from place.old.lines place.old.commands (line.now ∷ later))
+        (plan_from place.new.lines place.new.commands later) }
+    ensures row { IfOk result AsksRowAt }
+    ensures only { IfErr result IsOfReading }
+    ensures read { result ≡ Err Status.ReadFault → ⊥ }
+    ensures goes { IfOk result (λ ask. Goes ask place.old.lines place.new.lines place.old.commands place.new.commands) }
+    ensures within { place.new.lines ≤ MOST_LINES }
+    ensures few { place.new.commands ≤ MOST_COMMANDS }
+{
+    let number = place.lines + 1;
+    if place.lines == MOST_LINES {
+        return Err(Status::TooLong(number));
+    }
+    match read_command(alloc, line) {
+        Ok(Some(command)) => {
+            if place.commands == MOST_COMMANDS {
+                return Err(Status::TooLong(number));
+            }
+            place.lines = number;
+            place.commands += 1;
+            Ok(Ask::Do(command))
+        }
+        Ok(None) => {
+            place.lines = number;
+            Ok(Ask::Blank)
+        }
+        Err(_) => Err(Status::Memory),
+    }
+}

@@ -1,0 +1,26 @@
+//! A whole run: the node is started on a disk, a script is read, the replies to its commands are written, and the node is
+//! stopped.
+#![tactic(auto)]
+
+mod asks;
+mod commands;
+mod commits;
+mod host;
+mod lines;
+mod names;
+mod node;
+mod outcome;
+mod replies;
+mod running;
+mod serving;
+mod table;
+mod terms;
+mod words;
+
+pub use commands::line_laws;
+pub use host::{HostDisk, HostIn, HostOut};
+pub use outcome::{Outcome, Status};
+pub use running::run;
+
+#[cfg(test)]
+mod tests;

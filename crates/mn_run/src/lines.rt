@@ -1,0 +1,135 @@
+//! The lines of a script that comes in pieces of any size.
+
+ghost use Rattle.std.specs.Prelude.{◌≡◌, ◌≤◌, ◌<◌, ◌++◌, [], true, length, MatchOption, IsTrue, IfOk, OnOk};
+ghost use Rattle.mn_run.specs.Reading.{has_no_end, EndsAt, Added, Grows, Refills, IsFilled, FirstLine, LineCause};
+
+use file_trait::{Source, SrcErr};
+use std::alloc::Global;
+use std::marker::Model;
+
+/// The most bytes of a line.
+pub const MOST_LINE: usize = 1_048_576;
+
+const PIECE: usize = 4096;
+
+#[derive(Clone, Copy, Debug, PartialEq, Eq)]
+pub enum LineErr {
+    Failed,
+    TooLong,
+    Memory,
+}
+
+/// What was read of a script and not yet taken as a line.
+#[derive(Drop)]
+pub struct Lines {
+    piece: [u8; 4096],
+    from: usize,
+    to: usize,
+}
+
+impl Model for Lines {
+    ghost use Rattle.std.specs.Prelude.{List, ℕ, length, ◌-◌, ◌≤◌, slice_range};
+
+    ghost Value = { List ℕ };
+
+    ghost view = { λ l. slice_range l.piece l.from l.to };
+
+    ghost invariant = { λ l. (l.from ≤ l.to) × (l.to ≤ length l.piece) × (l.to ≤ 4096) };
+}
+
+fn end_of(bytes: &[u8]) -> Option<usize>
+    ensures { MatchOption result (has_no_end bytes.now ≡ true) (λ n. EndsAt bytes.now n) }
+{
+    for (i, byte) in bytes.iter().enumerate() {
+        if *byte == b'\n' {
+            return Some(i);
+        }
+    }
+    None
+}
+
+impl Lines {
+    pub fn new() -> Lines
+        ensures { result ≡ [] }
+    {
+        Lines {
+            piece: [0; PIECE],
+            from: 0,
+            to: 0,
+        }
+    }
+
+    /// Adds to the line what was read of it. Whether its end was found.
+    fn take_part(&mut self, line: &mut Vec<u8>) -> Result<bool, LineErr>
+        requires { length line.old.items ≤ MOST_LINE }
+        ensures { Grows result line.old.items line.new.items self.old self.new }
+    {
+        let bytes = &self.piece[self.from..self.to];
+        match end_of(bytes) {
+            Some(n) => {
+                add(line, &bytes[..n])?;
+                self.from = self.from + n + 1;
+                Ok(true)
+            }
+            None => {
+                add(line, bytes)?;
+                self.from = self.to;
+                Ok(false)
+            }
+        }
+    }
+
+    /// Reads more, where nothing is left of what was read. Whether there was more.
+    fn refill<S: Source>(&mut self, script: &mut S) -> Result<bool, LineErr>
+        ensures told { IsTrue S.tells → Refills result self.new (S.left script.old) (S.left script.new) }
+        ensures filled { IsFilled result self.new }
+        ensures short { length self.new ≤ 4096 }
+        ensures cause { LineCause (S.faults script.old) (S.faults script.new) result }
+    {
+        self.from = 0;
+        self.to = 0;
+        match script.read(&mut self.piece) {
+            Ok(count) => {
+                self.to = count;
+                Ok(count > 0)
+            }
+            Err(SrcErr::Failed) => Err(LineErr::Failed),
+        }
+    }
+
+    /// The next line, where there is one.
+    pub fn next_line<S: Source>(
+        &mut self,
+        script: &mut S,
+        line: &mut Vec<u8>,
+    ) -> Result<bool, LineErr>
+        ensures line { IsTrue S.tells → FirstLine result line.new.items (self.old ++ S.left script.old) (self.new ++ S.left script.new) }
+        ensures short { OnOk result (length line.new.items ≤ MOST_LINE) }
+        ensures cause { LineCause (S.faults script.old) (S.faults script.new) result }
+    {
+        let _piece = &self.piece;
+        line.clear();
+        loop {
+            if self.take_part(line)? {
+                return Ok(true);
+            }
+            if !self.refill(script)? {
+                return Ok(!line.is_empty());
+            }
+        }
+    }
+}
+
+/// Adds a part to a line, up to the limit.
+fn add(line: &mut Vec<u8>, part: &[u8]) -> Result<(), LineErr>
+    requires { length line.old.items ≤ MOST_LINE }
+    ensures { Added result line.old.items line.new.items part.now }
+{
+    if part.len() > MOST_LINE - line.len() {
+        return Err(LineErr::TooLong);
+    }
+    match line.extend_from_slice(part) {
+        Ok(()) => Ok(()),
+        Err(_) => Err(LineErr::Memory),
+    }
+}

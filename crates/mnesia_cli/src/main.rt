@@ -1,0 +1,73 @@
+//! The durable side of Mnesia on one node. `mnesia_cli DIR` reads commands from standard input, keeps their tables in
+//! the directory DIR, and answers each with a line. Its exit status is the status of the run.
+#![tactic(auto)]
+
+ghost use Rattle.std.specs.Prelude.{◌≤◌, ◌↔◌, IsTrue, length, map, string_bytes};
+ghost use Rattle.mnesia_cli.specs.Words.{IsDirectory, Names};
+
+use mn_run::{HostDisk, HostIn, HostOut, Status, run};
+use std::process::ExitCode;
+use std::rt::{Env, Files};
+use std::{env, io};
+
+const MOST_BYTES: usize = 4096;
+
+// The arguments without the program's name.
+fn words_of<R: Env + AllocGlobal>(rt: &R) -> io::Result<Vec<String>> {
+    let mut words = env::args(rt)?;
+    let _program = words.next();
+    Ok(words.collect(rt.alloc())?)
+}
+
+fn is_directory(word: &str) -> bool
+    ensures { IsTrue result ↔ IsDirectory word.now }
+{
+    let bytes = word.as_bytes();
+    !bytes.is_empty() && bytes.len() <= MOST_BYTES && bytes[0] != b'-'
+}
+
+// The directory that the words name. Where they name none it is the current one, and the run leaves that untouched.
+fn directory(words: &[String]) -> &str
+    ensures some { 1 ≤ length result.now }
+    ensures short { length result.now ≤ 4096 }
+    ensures named { Names (map string_bytes words.now) result.now }
+{
+    match words {
+        [dir] if is_directory(dir.as_str()) => dir.as_str(),
+        _ => ".",
+    }
+}
+
+fn run_on<R: Files + Input + Print + AllocGlobal>(rt: &R, words: &[String]) -> Status {
+    let alloc = rt.alloc();
+    let Ok(mut disk) = HostDisk::new(rt, alloc, directory(words)) else {
+        return Status::Memory;
+    };
+    let (mut script, mut out) = (HostIn::new(rt), HostOut::new(rt));
+    run(alloc, words, &mut disk, &mut script, &mut out).status
+}
+
+// What a status says on standard error.
+fn explain(rt: &impl Eprint, status: &Status) {
+    match status {
+        Status::Usage => {
+            let _ = eprintln!(rt; "usage: mnesia_cli DIR");
+        }
+        Status::Damaged(name, at) => {
+            let name = str::from_utf8(name.bytes()).unwrap_or("");
+            let _ = eprintln!(rt; "damaged {name} at {at}");
+        }
+        _ => {}
+    }
+}
+
+fn main(rt: HostRuntime) -> ExitCode {
+    let status = match words_of(&rt) {
+        Ok(words) => run_on(&rt, &words),
+        Err(error) if error.kind() == io::ErrorKind::OutOfMemory => Status::Memory,
+        // An argument that is no text.
+        Err(_) => Status::Usage,
+    };
+    explain(&rt, &status);
+    ExitCode::from(status.number())
+}

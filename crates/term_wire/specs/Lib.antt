@@ -1,0 +1,4 @@
+pub mod Appends
+pub mod Decoding
+pub mod Reading
+pub mod Spelling

@@ -1,0 +1,54 @@
+//! The text of a term.
+
+ghost use Rattle.std.specs.Prelude.{◌≡◌, ◌≤◌, ◌<◌, ◌^◌, ◌↔◌, ◌++◌, length, OnOk, OnErr};
+ghost use Rattle.term_core.specs.Tree.{depth};
+ghost use Rattle.term_core.specs.View.{tree_of};
+ghost use Rattle.term_wire.specs.Appends.{Appends};
+ghost use Rattle.term_wire.specs.Spelling.{IsPlain, canon};
+
+use crate::error::EncodeErr;
+use crate::length::room_after;
+use crate::tag;
+use crate::write::put;
+use std::alloc::AllocError;
+use term_core::Term;
+
+/// The levels of the deepest term that has a text.
+pub const MOST_LEVELS: u32 = 128;
+
+/// The bytes of the longest text.
+const MOST_BYTES: u32 = 1 << 28;
+
+/// Adds the text of a term at the end of `out`. An error leaves `out` as it was.
+pub fn encode(term: &Term, out: &mut Vec<u8>) -> Result<(), EncodeErr>
+    requires { IsPlain (tree_of term.now) }
+    ensures ok { OnOk result (out.new.items ≡ out.old.items ++ canon (tree_of term.now)) }
+    ensures fits { OnOk result ((depth (tree_of term.now) ≤ 128) × (length (canon (tree_of term.now)) ≤ 2 ^ 28)) }
+    ensures err { OnErr result (out.new.items ≡ out.old.items) }
+
+    // Only a deep term is too deep, and of the others only a long one is too long.
+    ensures too_deep { (result ≡ Err EncodeErr.TooDeep) ↔ (128 < depth (tree_of term.now)) }
+    ensures too_long { (result ≡ Err EncodeErr.TooLong) ↔ ((depth (tree_of term.now) ≤ 128) × (2 ^ 28 < length (canon (tree_of term.now)))) }
+{
+    if !term.depth_within(MOST_LEVELS) {
+        return Err(EncodeErr::TooDeep);
+    }
+    if room_after(term, MOST_BYTES - 1).is_none() {
+        return Err(EncodeErr::TooLong);
+    }
+    let before = out.len();
+    if put_text(term, out).is_err() {
+        out.truncate(before);
+        return Err(EncodeErr::Memory);
+    }
+    Ok(())
+}
+
+/// The same where the text is neither too deep nor too long.
+fn put_text(term: &Term, out: &mut Vec<u8>) -> Result<(), AllocError>
+    requires { IsPlain (tree_of term.now) }
+    ensures { Appends result out.old.items out.new.items (canon (tree_of term.now)) }
+{
+    out.push(tag::VERSION)?;
+    put(term, out)
+}
