@@ -1,20 +1,20 @@
 -- The acts of the node are steps of the machine.
-use Rattle.std.proofs.Common.{◌≡◌, ◌⊎◌, ℕ, zero, suc, ◌+◌, ◌<◌, ◌≤◌, Bool, true, false, ◌&&◌, if◌then◌else◌, map, List, [], ◌∷◌, ◌++◌, length, take, Option, None, Some, Result, Ok, Err, refl, sym, ap, ◌∙◌, subst, inl, inr, append-nil, append_assoc, arith}
+use Rattle.std.proofs.Common.{◌≡◌, ◌⊎◌, ℕ, zero, suc, ◌<◌, ◌≤◌, Bool, true, false, ◌&&◌, if◌then◌else◌, List, [], ◌∷◌, ◌++◌, length, take, Some, Err, refl, sym, ap, ◌∙◌, subst, inl, inr, append-nil, append_assoc, arith}
 use Rattle.std.proofs.lemmas.List.{map-append, take_all}
 use Rattle.std.proofs.lemmas.List.Elements.{All-append, All-cons, All-nil}
 use Rattle.term_core.specs.Tree.{Tree}
 use Rattle.file_trait.specs.DiskModel.{Past, reads}
 use Rattle.file_trait.specs.Counts.{Rose}
-use Rattle.disk_logs.specs.Items.{head_bytes, log_bytes, wire, item_bytes, HasItems, IsSmall, AreSmall, IsIncomplete}
+use Rattle.disk_logs.specs.Items.{head_bytes, log_bytes, wire, item_bytes, IsSmall, AreSmall}
 use Rattle.disk_logs.specs.Logs.{Handle, file_of, opened, IsLog, AreItems, HasAppended, HasMarked}
 use Rattle.disk_logs.specs.Errors.{OnlyFileOrMemory, LogCause}
 use Rattle.disk_logs.specs.declared.error.LogErr.{LogErr}
 use Rattle.disk_logs.specs.declared.error.LogErr.TheVariants.{File, Bad, TooLong, Memory}
 use Rattle.mn_run.specs.Commits.{commit_text, commits_of, head_text}
-use Rattle.mn_run.specs.Files.{Files, latest, Keeps, KeepsUpTo, Shows}
+use Rattle.mn_run.specs.Files.{latest, KeepsUpTo, Shows}
 use Rattle.mn_run.specs.Machine.{Machine, Change, goes_on}
-use Rattle.mn_run.specs.Orders.{put, get, bad, stop, done, found, stopped, fault, no_memory, bad_line, started, Answer, Order}
-use Rattle.mn_run.specs.Steps.{Steps, Stops, failed_answer, IsStop, AnswersRead}
+use Rattle.mn_run.specs.Orders.{put, get, stop, done, found, stopped, fault, no_memory, bad_line, started, Answer, Order}
+use Rattle.mn_run.specs.Steps.{Steps, Stops, failed_answer, AnswersRead}
 use Rattle.mn_run.specs.Tables.{records_of, has_key, put_record}
 use Rattle.mn_run.proofs.Kept.{keeps_whole, shown_held}
 use Rattle.mn_run.proofs.Rows.{records_put}

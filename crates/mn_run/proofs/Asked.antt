@@ -4,7 +4,7 @@ use Rattle.term_core.specs.Tree.{Tree, int, atom, tuple, list, bin}
 use Rattle.mn_run.specs.Commands.{command_at}
 use Rattle.mn_run.specs.Commits.{IsSimple, IsRow}
 use Rattle.mn_run.specs.Grammar.{IsField, IsCommand}
-use Rattle.mn_run.specs.Orders.{Order, put}
+use Rattle.mn_run.specs.Orders.{put}
 use Rattle.mn_run.specs.Seen.{order, AsksRow}
 use Rattle.mn_run.specs.declared.commands.Command.{Command}
 use Rattle.mn_run.specs.declared.commands.Command.TheVariants as command

@@ -1,14 +1,14 @@
 -- The commit of a record has a text, and a short one.
-use Rattle.std.proofs.Common.{◌≡◌, ℕ, ◌+◌, ◌<◌, ◌≤◌, Bool, true, false, ◌&&◌, if◌then◌else◌, ℤ, pos, List, [], ◌∷◌, ◌++◌, length, refl, sym, ap, ◌∙◌, subst, lit<, lit≤, length-append, arith, FitsSigned, codes, rules}
+use Rattle.std.proofs.Common.{◌≡◌, ℕ, ◌<◌, ◌≤◌, Bool, true, false, ◌&&◌, if◌then◌else◌, List, [], ◌∷◌, length, refl, sym, subst, lit<, lit≤, length-append, arith, codes, rules}
 use Rattle.std.specs.Char.{is_ascii_lowercase}
 use Rattle.std.specs.Int.{w32, to_be_bytes, cast_unsigned}
 use Rattle.std.specs.List.{list_all}
-use Rattle.std.specs.Str.{IsAscii, IsUtf8}
+use Rattle.std.specs.Str.{IsAscii}
 use Rattle.std.proofs.lemmas.Bool.Decides.{nat_tests}
 use Rattle.std.proofs.lemmas.Str.{IsUtf8-from_ascii}
 use Rattle.std.proofs.lemmas.Str.Ascii.{IsAscii-nil, IsAscii-cons}
-use Rattle.term_core.specs.Tree.{Tree, int, atom, tuple, list, bin, Trees, no_trees, tree}
-use Rattle.term_wire.specs.Spelling.{canon, IsPlain, spelling, spellings, fits_byte, number_spelling}
+use Rattle.term_core.specs.Tree.{Tree, int, atom, tuple, list, bin}
+use Rattle.term_wire.specs.Spelling.{IsPlain, spelling, fits_byte}
 use Rattle.disk_logs.specs.Items.{IsSmall}
 use Rattle.mn_run.specs.Commands.{row}
 use Rattle.mn_run.specs.Commits.{IsSimple, IsRow, write_of, commit_of, commit_text}

@@ -1,5 +1,5 @@
 -- The name of the log is a file's name, and not that of its draft.
-use Rattle.std.proofs.Common.{◌≡◌, ◌≢◌, ◌⊎◌, ℕ, ◌≤◌, inl, inr, refl, lit<, lit≤, ap, arith, length, List}
+use Rattle.std.proofs.Common.{◌≡◌, ◌≢◌, ℕ, ◌≤◌, inl, inr, refl, lit<, lit≤, ap, length}
 use Rattle.std.proofs.lemmas.List.Elements.{All-from_recursion}
 use Rattle.file_trait.specs.Name.{IsName, IsNameByte}
 use Rattle.disk_logs.specs.Logs.{draft_name}

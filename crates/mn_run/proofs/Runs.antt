@@ -1,5 +1,5 @@
 -- A run so far, and how it goes on and ends.
-use Rattle.std.proofs.Common.{◌≡◌, ℕ, ◌+◌, ◌≤◌, List, [], ◌∷◌, ◌++◌, length, take, drop, Option, Some, None, Result, Ok, Err, refl, sym, ap, ◌∙◌, subst, inl, inr, ◌⊎◌, append_assoc, append-nil, arith}
+use Rattle.std.proofs.Common.{◌≡◌, ℕ, List, [], ◌∷◌, ◌++◌, take, drop, None, Result, Ok, Err, refl, sym, ap, ◌∙◌, subst, inl, inr, ◌⊎◌, append_assoc, append-nil, arith}
 use Rattle.std.proofs.lemmas.List.{take-append-drop, flat_map_more, map-append}
 use Rattle.term_core.specs.Tree.{Tree}
 use Rattle.file_trait.specs.DiskModel.{Past, reads}
@@ -10,18 +10,19 @@ use Rattle.mn_run.specs.Orders.{Order, Answer, start, stop, started, fault, no_m
 use Rattle.mn_run.specs.Seen.{order}
 use Rattle.mn_run.specs.declared.commands.Command.{Command}
 use Rattle.mn_run.specs.declared.commands.Command.TheVariants as command
-use Rattle.mn_run.specs.Machine.{Machine, Moment, Step, IsRun, down, booted, last_of, orders_of, goes_on}
-use Rattle.mn_run.specs.Files.{Files, Shows, Holds, HoldsClosed, Keeps, Stands, NoMeaning}
+use Rattle.mn_run.specs.Machine.{Machine, Moment, Step, IsRun, down, booted, last_of, orders_of}
+use Rattle.mn_run.specs.Files.{Files, Shows, Holds, Keeps, Stands, NoMeaning}
 use Rattle.mn_run.specs.Replies.{text_of}
 use Rattle.mn_run.specs.declared.outcome.Status.{Status}
 use Rattle.mn_run.specs.declared.outcome.Status.TheVariants as status
 use Rattle.mn_run.specs.declared.asks.Ask.{Ask}
 use Rattle.mn_run.specs.declared.asks.Ask.TheVariants as ask
 use Rattle.mn_run.specs.Script.{Plan, behind, plan_of, plan_from, orders_of_plan, at_end}
-use Rattle.mn_run.specs.Runs.{Asks, Goes, IsOfReading, IsOfAnswering, IsOfStarting, IsOfStopping, IsOfPrinting, expected, status_of, Served, Began, BeginEnds, Stopped, Ran, Ends, line_of, lines_of_moments}
-use Rattle.mn_run.proofs.Kept.{shown_held, exclusive}
-use Rattle.mn_run.specs.declared.node.StartErr.{StartErr}
-use Rattle.mn_run.specs.declared.node.StartErr.TheVariants as start_
+use Rattle.mn_run.specs.Runs.{Asks, IsOfReading, IsOfAnswering, IsOfStarting, IsOfStopping, IsOfPrinting, expected, status_of, Served, Began, BeginEnds, Stopped, Ran, Ends, line_of, lines_of_moments}
+use Rattle.mn_run.proofs.Kept.{shown_held}
+use Rattle.mn_run.proofs.Meaning.{exclusive}
+use Rattle.mn_run.specs.declared.starting.StartErr.{StartErr}
+use Rattle.mn_run.specs.declared.starting.StartErr.TheVariants as start_
 
 -- ---- one moment more
 

@@ -1,9 +1,9 @@
 -- What a write puts into the log.
-use Rattle.std.specs.Prelude.{◌≡◌, ℕ, ◌≤◌, ◌<◌, true, pos, FitsSigned, List, [], ◌∷◌, length, map, codes}
+use Rattle.std.specs.Prelude.{◌≡◌, ℕ, zero, suc, ◌≤◌, ◌<◌, true, pos, FitsSigned, List, [], ◌∷◌, length, map, codes, All, Option, Some, None}
 use Rattle.std.specs.Char.{is_ascii_lowercase}
 use Rattle.std.specs.Int.{w32}
 use Rattle.std.specs.List.{list_all}
-use Rattle.term_core.specs.Tree.{Tree, int, atom, tuple, list, bin, Trees, no_trees, tree}
+use Rattle.term_core.specs.Tree.{Tree, int, atom, tuple, list, bin, Trees, no_trees, tree, inner}
 use Rattle.term_wire.specs.Spelling.{canon}
 use Rattle.mn_run.specs.Commands.{row}
 
@@ -23,6 +23,9 @@ pub record IsRow (item : Tree) : Type 0 where
   pub simple_key : IsSimple key
   pub simple_value : IsSimple value
 
+abbrev pub AreRows : List Tree → Type 0
+AreRows rows = All IsRow rows
+
 -- `{write,t,Row}`
 abbrev pub write_of : Tree → Tree
 write_of row = tuple (tree (atom (codes "write")) (tree (atom (codes "t")) (tree row no_trees)))
@@ -34,6 +37,24 @@ commit_of row = tuple (tree (atom (codes "commit")) (tree (int (pos 0)) (tree (l
 -- the text of a commit: an item of the log
 abbrev pub commit_text : Tree → List ℕ
 commit_text row = canon (commit_of row)
+
+-- it is the commit of no record
+abbrev pub IsNoCommit : List ℕ → Type 0
+IsNoCommit content = (row : Tree) → IsRow row → content ≡ commit_text row → ⊥
+
+-- it is the tree of no record's commit
+abbrev pub WritesNone : Tree → Type 0
+WritesNone commit = (row : Tree) → IsRow row → commit ≡ commit_of row → ⊥
+
+-- the tree at this place, counted from 0
+abbrev pub tree_at : ℕ → Trees → Option Tree
+tree_at n no_trees = None
+tree_at zero (tree t ts) = Some t
+tree_at (suc n) (tree t ts) = tree_at n ts
+
+-- this element of a tuple or a list
+abbrev pub part : ℕ → Tree → Option Tree
+part n t = tree_at n (inner t)
 
 -- the text of the first item of a log: `{log1}`
 abbrev pub head_text : List ℕ

@@ -1,10 +1,11 @@
 -- What a directory of files stands for.
-use Rattle.std.specs.Prelude.{◌≡◌, ◌⊎◌, ℕ, Bool, true, false, List, [], ◌∷◌, ◌++◌, map, codes, Option, None, Some, IsSome}
+use Rattle.std.specs.Prelude.{◌≡◌, ◌⊎◌, ℕ, ◌+◌, true, false, List, [], ◌∷◌, ◌++◌, length, take, codes, Option, None, Some}
 use Rattle.term_core.specs.Tree.{Tree}
 use Rattle.file_trait.specs.DiskModel.{Past, reads}
-use Rattle.disk_logs.specs.Items.{log_bytes, HasItems, AreSmall}
+use Rattle.disk_logs.specs.Items.{wire, log_bytes, HasItems, AreSmall}
 use Rattle.disk_logs.specs.Logs.{Handle}
-use Rattle.mn_run.specs.Commits.{commits_of}
+use Rattle.disk_logs.specs.Scan.{IsBadAt}
+use Rattle.mn_run.specs.Commits.{head_text, commits_of, AreRows, IsNoCommit}
 use Rattle.mn_run.specs.Machine.{Machine}
 use Rattle.mn_run.specs.Tables.{records_of}
 
@@ -15,13 +16,41 @@ Files = List ℕ → Option (List ℕ)
 abbrev pub latest : List ℕ
 latest = codes "LATEST.LOG"
 
--- a directory without a log stands for no writes; no other has a meaning yet
+-- a directory without a log stands for no writes, and one with a closed log for those that it has
 abbrev pub Stands : Files → List Tree → Type 0
-Stands files base = (files latest ≡ None) × (base ≡ [])
+Stands files base = ((files latest ≡ None) × (base ≡ [])) ⊎ ((files latest ≡ Some (log_bytes true (commits_of base))) × AreRows base)
 
--- the log has no meaning, from this place on
+-- the first item is not a log's
+abbrev pub LacksHead : List (List ℕ) → Type 0
+LacksHead items = (others : List (List ℕ)) → items ≡ head_text ∷ others → ⊥
+
+-- behind the first item the commits of these records stand, and then, as item number n, one that is none
+pub record HasNoCommit (items : List (List ℕ)) (n : ℕ) : Type 0 where
+  pub rows : List Tree
+  pub other : List ℕ
+  pub others : List (List ℕ)
+  pub good : AreRows rows
+  pub bad : IsNoCommit other
+  pub is : items ≡ commits_of rows ++ other ∷ others
+  pub number : n ≡ length (commits_of rows)
+
+-- the first item that should not be there, or the missing one, is number n, counted from 0
+abbrev pub IsWrongFrom : List (List ℕ) → ℕ → Type 0
+IsWrongFrom items n = ((n ≡ 0) × LacksHead items) ⊎ HasNoCommit items n
+
+-- such an item stands at this place, or would
+pub record IsWrongAt (items : List (List ℕ)) (at : ℕ) : Type 0 where
+  pub number : ℕ
+  pub wrong : IsWrongFrom items number
+  pub place : at ≡ 8 + length (wire (take number items))
+
+-- a closed log with items that are wrong from this place on
+abbrev pub IsWrongLogAt : List ℕ → ℕ → Type 0
+IsWrongLogAt bytes at = (items : List (List ℕ)) × AreSmall items × (bytes ≡ log_bytes true items) × IsWrongAt items at
+
+-- the log has no meaning, from this place on: it is no closed log, or one with other items
 abbrev pub NoMeaning : Files → ℕ → Type 0
-NoMeaning files at = IsSome (files latest) × (at ≡ 0)
+NoMeaning files at = (bytes : List ℕ) × (files latest ≡ Some bytes) × (IsBadAt bytes at ⊎ IsWrongLogAt bytes at)
 
 -- the log has the commits of these writes, and no log has none
 abbrev pub Keeps : Files → List Tree → Type 0

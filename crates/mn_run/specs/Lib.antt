@@ -3,6 +3,7 @@ pub mod Commits
 pub mod Files
 pub mod Grammar
 pub mod Lines
+pub mod Loads
 pub mod Machine
 pub mod Orders
 pub mod Reading

@@ -1,5 +1,5 @@
 -- The machine: its states, its steps and its runs. It keeps the table as a plain list of records.
-use Rattle.std.specs.Prelude.{◌≡◌, ℕ, Bool, true, false, List, [], ◌∷◌, ◌++◌, length, map, Option, Some, None}
+use Rattle.std.specs.Prelude.{◌≡◌, Bool, true, false, List, [], ◌∷◌, ◌++◌, length, map, Option, Some, None}
 use Rattle.term_core.specs.Tree.{Tree}
 use Rattle.mn_run.specs.Orders.{Order, start, put, get, bad, stop, Answer, started, done, found, bad_line, stopped, no_memory, fault}
 use Rattle.mn_run.specs.Tables.{records_of, put_record, written}

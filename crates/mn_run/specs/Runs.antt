@@ -1,5 +1,5 @@
 -- What a whole run is.
-use Rattle.std.specs.Prelude.{◌≡◌, ℕ, ◌+◌, ◌≤◌, true, List, [], ◌∷◌, ◌++◌, Option, Some, None, Result, Ok, Err, OnOk, OnErr, IsErrOf}
+use Rattle.std.specs.Prelude.{◌≡◌, ℕ, ◌+◌, ◌≤◌, true, List, [], ◌∷◌, ◌++◌, Option, Some, None, Result, Ok, Err, OnOk, IsErrOf}
 use Rattle.std.specs.List.{flat_map}
 use Rattle.term_core.specs.Tree.{Tree}
 use Rattle.file_trait.specs.Counts.{Rose}
@@ -14,8 +14,8 @@ use Rattle.mn_run.specs.Files.{Files, latest, Shows, Holds, HoldsClosed}
 use Rattle.mn_run.specs.Replies.{text_of}
 use Rattle.mn_run.specs.declared.outcome.Status.{Status}
 use Rattle.mn_run.specs.declared.outcome.Status.TheVariants as status
-use Rattle.mn_run.specs.declared.node.StartErr.{StartErr}
-use Rattle.mn_run.specs.declared.node.StartErr.TheVariants as start
+use Rattle.mn_run.specs.declared.starting.StartErr.{StartErr}
+use Rattle.mn_run.specs.declared.starting.StartErr.TheVariants as start
 use Rattle.mn_run.specs.declared.asks.Ask.{Ask}
 use Rattle.mn_run.specs.declared.asks.Ask.TheVariants as ask
 use Rattle.mn_run.specs.Script.{Plan, behind, plan_of, orders_of_plan}

@@ -6,8 +6,8 @@ use Rattle.disk_logs.specs.Logs.{Handle}
 use Rattle.disk_logs.specs.declared.error.LogErr.{LogErr}
 use Rattle.disk_logs.specs.declared.error.LogErr.TheVariants.{File, Bad, TooLong, Memory}
 use Rattle.mn_run.specs.Files.{latest, Shows, Holds, HoldsClosed}
-use Rattle.mn_run.specs.declared.node.StartErr.{StartErr}
-use Rattle.mn_run.specs.declared.node.StartErr.TheVariants as start
+use Rattle.mn_run.specs.declared.starting.StartErr.{StartErr}
+use Rattle.mn_run.specs.declared.starting.StartErr.TheVariants as start
 use Rattle.mn_run.specs.Machine.{Machine, Step, goes_on}
 use Rattle.mn_run.specs.Orders.{Order, Answer, stopped, found, no_memory, fault}
 use Rattle.mn_run.specs.Tables.{records_of}

@@ -17,10 +17,14 @@ pub const MOST_LINES: u64 = 2_000_000;
 /// The most commands of a script.
 pub const MOST_COMMANDS: u64 = 1_000_000;
 
+/// What a line asks for.
 #[derive(Drop)]
 pub enum Ask {
+    /// There is no line more.
     End,
+    /// Nothing: the line is empty.
     Blank,
+    /// This command, or the refusal of a line that is none.
     Do(Command),
 }
 

@@ -1,7 +1,12 @@
-//! What a write puts into the log.
+//! What a write puts into the log, and what such an item says.
 
-ghost use Rattle.std.specs.Prelude.{◌≡◌, ◌∷◌, [], length, IfOk, ◌≤◌};
+ghost use Rattle.std.specs.Prelude.{◌≡◌, ◌↔◌, ◌∷◌, [], length, ◌<◌, ◌≤◌, true, IfOk, IsTrue, Some, None, MatchOption};
+ghost use Rattle.std.specs.Char.{is_ascii_lowercase};
+ghost use Rattle.std.specs.List.{list_all};
+ghost use Rattle.std.specs.Option.{option_map};
+ghost use Rattle.term_core.specs.Tree.{Tree};
 ghost use Rattle.term_core.specs.View.{tree_of};
+ghost use Rattle.mn_run.specs.Commands.{row};
 ghost use Rattle.disk_logs.specs.Items.{item_bytes};
 ghost use Rattle.mn_run.specs.Commits as commits;
 
@@ -10,7 +15,7 @@ use disk_logs::put_item;
 use sqlite_items::Items;
 use std::alloc::{AllocError, Global};
 use term_core::Term;
-use term_wire::encode;
+use term_wire::{WireErr, decode, encode};
 
 /// The text of the first item of a log, `{log1}`.
 pub const HEAD_TEXT: [u8; 9] = [131, 104, 1, 119, 4, 108, 111, 103, 49];
@@ -36,6 +41,7 @@ fn commit_text(alloc: Global, row: &Term) -> Result<Vec<u8>, AllocError>
     let mut text = Vec::new(alloc);
     match encode(&commit, &mut text) {
         Ok(()) => Ok(text),
+        // A commit is neither too deep nor too long.
         Err(_) => Err(AllocError),
     }
 }
@@ -63,4 +69,132 @@ fn write_of(alloc: Global, row: &Term) -> Result<Term, AllocError>
     parts.push(atom(alloc, "t")?)?;
     parts.push(copied(alloc, row)?)?;
     Ok(Term::Tuple(parts))
+}
+
+/// The record that an item's content writes, where the content is the commit of one record of the table `t`.
+pub fn row_of(alloc: Global, content: &[u8]) -> Result<Option<Term>, AllocError>
+    ensures { IfOk result (λ found. MatchOption found (commits.IsNoCommit content.now) (λ row. commits.IsRow (tree_of row) × (content.now ≡ commits.commit_text (tree_of row)))) }
+{
+    match decode(alloc, content) {
+        Ok(commit) => row_written(alloc, &commit),
+        Err(error) => without_row(error),
+    }
+}
+
+/// A content that cannot be read is no commit, but want of memory tells nothing.
+fn without_row(error: WireErr) -> Result<Option<Term>, AllocError>
+    ensures { IfOk result (λ found. (found ≡ None) × (error ≡ WireErr.Memory → ⊥)) }
+{
+    match error {
+        WireErr::Memory => Err(AllocError),
+        WireErr::Bad(_) | WireErr::Outside(_, _) | WireErr::WideInt(_) | WireErr::TooDeep(_) => {
+            Ok(None)
+        }
+    }
+}
+
+/// The record that a commit writes, where it is the commit of one record of the table `t`.
+fn row_written(alloc: Global, commit: &Term) -> Result<Option<Term>, AllocError>
+    ensures { IfOk result (λ found. MatchOption found (commits.WritesNone (tree_of commit.now)) (λ row. commits.IsRow (tree_of row) × (tree_of commit.now ≡ commits.commit_of (tree_of row)))) }
+{
+    let Some((key, value)) = fields_written(commit) else {
+        return Ok(None);
+    };
+    if !is_simple(key) || !is_simple(value) {
+        return Ok(None);
+    }
+    let row = row_with(alloc, key, value)?;
+    if commit_of(alloc, &row)? == *commit {
+        return Ok(Some(row));
+    }
+    Ok(None)
+}
+
+/// The key and the value of the first write's record. Of the rest of the commit nothing is tested.
+fn fields_written(commit: &Term) -> Option<(&Term, &Term)>
+    ensures { (key value : Tree) → tree_of commit.now ≡ commits.commit_of (row key value) → option_map {U = Tree × Tree} (λ fields. (tree_of fields.0.now, tree_of fields.1.now)) result ≡ Some (key, value) }
+{
+    let writes = part(commit, 3)?;
+    let write = part(writes, 0)?;
+    let row = part(write, 2)?;
+    Some((part(row, 1)?, part(row, 2)?))
+}
+
+/// This element of a tuple or a list, counted from 0.
+fn part(term: &Term, at: usize) -> Option<&Term>
+    ensures { MatchOption result (commits.part at (tree_of term.now) ≡ None) (λ found. commits.part at (tree_of term.now) ≡ Some (tree_of found.now)) }
+{
+    match term {
+        Term::Tuple(parts) => parts.get(at),
+        Term::List(parts) => parts.get(at),
+        Term::Int(_) | Term::Atom(_) | Term::Bin(_) => None,
+    }
+}
+
+/// Whether a record may have it as its key or its value.
+fn is_simple(field: &Term) -> bool
+    ensures { IsTrue result ↔ commits.IsSimple (tree_of field.now) }
+{
+    match field {
+        Term::Int(number) => -2_147_483_648 <= *number && *number <= 2_147_483_647,
+        Term::Atom(name) => is_name(name.text().as_bytes()),
+        Term::Tuple(_) | Term::List(_) | Term::Bin(_) => false,
+    }
+}
+
+/// 1 to 32 small letters.
+fn is_name(bytes: &[u8]) -> bool
+    ensures { IsTrue result ↔ (0 < length bytes.now) × (length bytes.now ≤ 32) × (list_all is_ascii_lowercase bytes.now ≡ true) }
+{
+    !bytes.is_empty() && bytes.len() <= 32 && are_letters(bytes)
+}
+
+fn are_letters(bytes: &[u8]) -> bool
+    ensures { result ≡ list_all is_ascii_lowercase bytes.now }
+{
+    bytes.iter().all(|byte| byte.is_ascii_lowercase())
+}
+
+/// `{t,Key,Value}`
+fn row_with(alloc: Global, key: &Term, value: &Term) -> Result<Term, AllocError>
+    ensures { IfOk result (λ made. tree_of made ≡ row (tree_of key.now) (tree_of value.now)) }
+{
+    let mut parts = Items::new(alloc);
+    parts.push(atom(alloc, "t")?)?;
+    parts.push(copied(alloc, key)?)?;
+    parts.push(copied(alloc, value)?)?;
+    Ok(Term::Tuple(parts))
+}
+
+#[cfg(test)]
+mod tests {
+    use super::*;
+    use std::test::Fail;
+
+    // {commit,0,[],[{write,t,{t,1,a}}]}
+    const COMMIT: [u8; 42] = [
+        131, 104, 4, 119, 6, 99, 111, 109, 109, 105, 116, 97, 0, 106, 108, 0, 0, 0, 1, 104, 3, 119,
+        5, 119, 114, 105, 116, 101, 119, 1, 116, 104, 3, 119, 1, 116, 97, 1, 119, 1, 97, 106,
+    ];
+
+    #[test]
+    fn a_commit_says_its_record(rt: HostRuntime) -> Result<(), Fail> {
+        let row = row_with(rt.alloc(), &Term::Int(1), &atom(rt.alloc(), "a")?)?;
+        let item = commit_item(rt.alloc(), &row)?;
+        assert!(rt; item.ends_with(&COMMIT));
+        let mut another_version = COMMIT;
+        another_version[12] = 1;
+        let contents = [
+            (COMMIT.as_slice(), true),
+            (HEAD_TEXT.as_slice(), false),
+            (another_version.as_slice(), false),
+            (&COMMIT[1..], false),
+        ];
+        for (content, is_commit) in contents {
+            let found = row_of(rt.alloc(), content)?;
+            assert_eq!(rt; found.is_some(), is_commit);
+            assert!(rt; found.is_none_or(|other| other == row));
+        }
+        Ok(())
+    }
 }

@@ -13,6 +13,7 @@ mod outcome;
 mod replies;
 mod running;
 mod serving;
+mod starting;
 mod table;
 mod terms;
 mod words;

@@ -12,10 +12,14 @@ pub const MOST_LINE: usize = 1_048_576;
 
 const PIECE: usize = 4096;
 
+/// Why a line could not be read.
 #[derive(Clone, Copy, Debug, PartialEq, Eq)]
 pub enum LineErr {
+    /// The source failed.
     Failed,
+    /// The line has more bytes than a line may have.
     TooLong,
+    /// Memory was wanting.
     Memory,
 }
 
@@ -107,6 +111,7 @@ impl Lines {
         ensures short { OnOk result (length line.new.items ≤ MOST_LINE) }
         ensures cause { LineCause (S.faults script.old) (S.faults script.new) result }
     {
+        // Without this view the prover does not see that the piece is whole.
         let _piece = &self.piece;
         line.clear();
         loop {

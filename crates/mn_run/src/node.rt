@@ -1,41 +1,25 @@
 //! The node: the table, its log, and what answers a command.
 
-ghost use Rattle.std.specs.Prelude.{◌≡◌, ◌≤◌, ◌⊎◌, ◌∷◌, ℕ, List, [], Some, true, false, IsTrue, IsErrOf, OnOk, OnErr, IfOk, MatchResult, map};
+ghost use Rattle.std.specs.Prelude.{◌≡◌, ◌≤◌, true, IsTrue, map};
 ghost use Rattle.file_trait.specs.Counts.{Rose};
-ghost use Rattle.file_trait.specs.DiskModel.{reads};
-ghost use Rattle.term_core.specs.Tree.{Tree};
 ghost use Rattle.term_core.specs.View.{tree_of};
-ghost use Rattle.disk_logs.specs.Items.{log_bytes};
 ghost use Rattle.disk_logs.specs.Logs.{IsLog};
-ghost use Rattle.disk_logs.specs.Errors.{OnlyFileOrMemory, LogCause};
-ghost use Rattle.mn_run.specs.Commits.{IsRow, head_text};
-ghost use Rattle.mn_run.specs.Files.{Stands, NoMeaning, Keeps, Shows, latest};
-ghost use Rattle.mn_run.specs.Machine.{Machine, down, booted, goes_on};
+ghost use Rattle.mn_run.specs.Commits.{IsRow};
+ghost use Rattle.mn_run.specs.Files.{Shows};
+ghost use Rattle.mn_run.specs.Machine.{Machine, goes_on};
 ghost use Rattle.mn_run.specs.Orders as orders;
 ghost use Rattle.mn_run.specs.Seen as seen;
 ghost use Rattle.mn_run.specs.Seen.{AsksRow};
-ghost use Rattle.mn_run.specs.Steps.{Steps, Stops, AnswersRead, IsStop, failed_answer, StartsDamaged};
+ghost use Rattle.mn_run.specs.Steps.{Steps, Stops, AnswersRead, IsStop, failed_answer};
 
 use crate::commands::Command;
-use crate::commits::{HEAD_TEXT, commit_item};
-use crate::names;
+use crate::commits::commit_item;
 use crate::replies::Reply;
 use crate::table::Table;
 use disk_logs::{Log, LogErr};
-use file_trait::{Disk, DiskErr, FileName};
+use file_trait::Disk;
 use std::alloc::Global;
 use term_core::Term;
-
-/// Why a start did not bring the node up.
-#[derive(Clone, Copy, Debug, PartialEq, Eq)]
-pub enum StartErr {
-    /// The disk failed.
-    Fault,
-    /// This file has no meaning, from this place on.
-    Damaged(FileName, u64),
-    /// Memory was wanting.
-    Memory,
-}
 
 /// A node that is up.
 #[derive(Drop)]
@@ -44,47 +28,14 @@ pub struct Node {
     table: Table,
 }
 
-/// A node over a directory without a log. A log that is there has no meaning yet.
-pub fn start<D: Disk>(alloc: Global, disk: &mut D) -> Result<Node, StartErr>
-    ensures started { IsTrue D.tells → (base : List Tree) → Stands (reads (D.past disk.old)) base
-        → IfOk result (λ node. Shows (map tree_of node.table.rows.items) node.log (D.past disk.new) (booted (down base))) }
-    ensures failed { IsTrue D.tells → (base : List Tree) → Stands (reads (D.past disk.old)) base → OnErr result (Keeps (reads (D.past disk.new)) base) }
-    ensures stands { IsTrue D.tells → IfOk result (λ node. IsLog (D.past disk.new) node.log) }
-    ensures damaged { IsTrue D.tells → (name : List ℕ) (at : ℕ) → result ≡ Err (StartErr.Damaged name at) → (name ≡ latest) × NoMeaning (reads (D.past disk.old)) at }
-    ensures meaning { IsTrue D.tells → (at : ℕ) → NoMeaning (reads (D.past disk.old)) at → MatchResult result (λ node. ⊥) (StartsDamaged at) }
-    ensures later { D.faults disk.old ≤ D.faults disk.new }
-    ensures fault { IsErrOf result StartErr.Fault → Rose (D.faults disk.old) (D.faults disk.new) }
-{
-    match disk.len(names::latest()) {
-        Ok(None) => {}
-        Ok(Some(_)) => return Err(StartErr::Damaged(names::latest(), 0)),
-        Err(DiskErr::Failed) => return Err(StartErr::Fault),
-        Err(DiskErr::Memory) => return Err(StartErr::Memory),
-    }
-    match new_log(alloc, disk) {
-        Ok(log) => Ok(Node {
-            log,
-            table: Table::new(alloc),
-        }),
-        Err(LogErr::Memory) => Err(StartErr::Memory),
-        Err(_) => Err(StartErr::Fault),
-    }
-}
-
-/// A new log without commits, published.
-fn new_log<D: Disk>(alloc: Global, disk: &mut D) -> Result<Log, LogErr>
-    ensures log { IfOk result (λ log. log ≡ record { name = latest; draft = false; closed = true }) }
-    ensures file { IsTrue D.tells → OnOk result (reads (D.past disk.new) latest ≡ Some (log_bytes true (head_text ∷ []))) }
-    ensures left { IsTrue D.tells → OnErr result ((reads (D.past disk.new) latest ≡ reads (D.past disk.old) latest) ⊎ (reads (D.past disk.new) latest ≡ Some (log_bytes true (head_text ∷ [])))) }
-    ensures only { OnlyFileOrMemory result }
-    ensures cause { LogCause (D.faults disk.old) (D.faults disk.new) (D.blamed disk.new) result }
-{
-    let mut log = Log::draft(alloc, disk, names::latest(), &HEAD_TEXT)?;
-    log.publish(disk)?;
-    Ok(log)
-}
-
 impl Node {
+    pub fn new(log: Log, table: Table) -> Node
+        ensures log { result.log ≡ log }
+        ensures table { result.table ≡ table }
+    {
+        Node { log, table }
+    }
+
     /// Answers one command.
     pub fn answer<D: Disk>(&mut self, alloc: Global, disk: &mut D, command: Command) -> Reply
         requires log { IsTrue D.tells → IsLog (D.past disk.old) self.old.log }
@@ -102,7 +53,7 @@ impl Node {
         }
     }
 
-    /// Takes all its memory first, then appends the commit, and then changes the table.
+    /// Takes the memory of the record's place in the table, then appends its commit, and then puts it there, which cannot fail.
     fn put<D: Disk>(&mut self, alloc: Global, disk: &mut D, row: Term) -> Reply
         requires log { IsTrue D.tells → IsLog (D.past disk.old) self.old.log }
         requires row { IsRow (tree_of row) }
@@ -152,7 +103,7 @@ impl Node {
     }
 }
 
-/// The reply where the log failed.
+/// The reply where the log failed. A log that is written is never answered `Bad` or `TooLong`.
 fn failed(error: LogErr) -> Reply
     ensures { seen.answer result ≡ failed_answer error }
 {

@@ -20,7 +20,8 @@ pub enum Status {
     DiskFault,
     /// This file has no meaning, from this place on.
     Damaged(FileName, u64),
-    /// Memory was wanting.
+    /// Memory was wanting at the start, at the stop, or where a line was read or a reply printed. A command that wants memory is
+    /// answered instead.
     Memory,
     /// This line, from 1, passes a limit.
     TooLong(u64),

@@ -15,7 +15,7 @@ use term_core::Term;
 /// What the node answers.
 #[derive(Drop)]
 pub enum Reply {
-    /// The node is up, and kept this many commits of those since the last start.
+    /// The node is up. Of the commits since the start before, in this run, so many were kept: none at the first start.
     Started(u64),
     /// The write is done.
     Done,

@@ -43,9 +43,11 @@ pub fn run<D: Disk, S: Source, K: Sink>(
         → Ran (S.left script.old) result.status base (reads (D.past disk.new)) (K.written out.old) (K.written out.new) }
 
     // Damaged comes exactly where the directory has no meaning, with the place, unless the disk failed or memory was wanting.
+    // Nothing is printed then, and nothing is done to the disk.
     ensures damaged { IsTrue D.tells → (name : List ℕ) (at : ℕ) → result.status ≡ Status.Damaged name at → (name ≡ latest) × NoMeaning (reads (D.past disk.old)) at }
     ensures meaning { IsTrue D.tells → HasForm (map string_bytes words.now) → (at : ℕ) → NoMeaning (reads (D.past disk.old)) at → EndsDamaged at result.status }
     ensures silent { IsTrue D.tells → IsTrue K.tells → (at : ℕ) → NoMeaning (reads (D.past disk.old)) at → K.written out.new ≡ K.written out.old }
+    ensures kept { IsTrue D.tells → (name : List ℕ) (at : ℕ) → result.status ≡ Status.Damaged name at → D.past disk.new ≡ D.past disk.old }
 
     ensures read { result.status ≡ Status.ReadFault → Rose (S.faults script.old) (S.faults script.new) }
     ensures write { result.status ≡ Status.WriteFault → Rose (K.faults out.old) (K.faults out.new) }
@@ -79,6 +81,7 @@ fn run_all<D: Disk, S: Source, K: Sink>(
     ensures damaged { IsTrue D.tells → (name : List ℕ) (at : ℕ) → result ≡ Status.Damaged name at → (name ≡ latest) × NoMeaning (reads (D.past disk.old)) at }
     ensures meaning { IsTrue D.tells → (at : ℕ) → NoMeaning (reads (D.past disk.old)) at → EndsDamaged at result }
     ensures silent { IsTrue D.tells → IsTrue K.tells → (at : ℕ) → NoMeaning (reads (D.past disk.old)) at → K.written out.new ≡ K.written out.old }
+    ensures kept { IsTrue D.tells → (name : List ℕ) (at : ℕ) → result ≡ Status.Damaged name at → D.past disk.new ≡ D.past disk.old }
     ensures read { result ≡ Status.ReadFault → Rose (S.faults script.old) (S.faults script.new) }
     ensures write { result ≡ Status.WriteFault → Rose (K.faults out.old) (K.faults out.new) }
     ensures disk { result ≡ Status.DiskFault → Rose (D.faults disk.old) (D.faults disk.new) }

@@ -16,9 +16,10 @@ ghost use Rattle.mn_run.specs.Seen as seen;
 ghost use Rattle.mn_run.specs.Seen.{AsksRow};
 
 use crate::commands::Command;
-use crate::node::{Node, StartErr, start};
+use crate::node::Node;
 use crate::outcome::Status;
 use crate::replies::{Reply, print_reply};
+use crate::starting::{StartErr, start};
 use file_trait::{Disk, Sink, SinkErr, write_all};
 use std::alloc::Global;
 
@@ -35,6 +36,7 @@ pub fn begin<D: Disk, K: Sink>(
     ensures log { IsTrue D.tells → IfOk result (λ node. IsLog (D.past disk.new) node.log) }
     ensures damaged { IsTrue D.tells → (name : List ℕ) (at : ℕ) → result ≡ Err (Status.Damaged name at) → (name ≡ latest) × NoMeaning (reads (D.past disk.old)) at }
     ensures meaning { IsTrue D.tells → (at : ℕ) → NoMeaning (reads (D.past disk.old)) at → MatchResult result (λ node. ⊥) (EndsDamaged at) }
+    ensures kept { IsTrue D.tells → (name : List ℕ) (at : ℕ) → result ≡ Err (Status.Damaged name at) → D.past disk.new ≡ D.past disk.old }
     ensures silent { IsTrue K.tells → IsTrue D.tells → (at : ℕ) → NoMeaning (reads (D.past disk.old)) at → K.written out.new ≡ K.written out.old }
     ensures write { Causes Status.WriteFault (K.faults out.old) (K.faults out.new) result }
     ensures disk { Causes Status.DiskFault (D.faults disk.old) (D.faults disk.new) result }

@@ -7,7 +7,7 @@ ghost use Rattle.term_core.specs.View.{tree_of};
 use std::alloc::{AllocError, Global};
 use term_core::{Atom, Term};
 
-/// The atom of a text of at most 255 characters.
+/// The atom of a text. The texts that are given are of at most 255 characters, so that only memory may be wanting.
 pub fn atom(alloc: Global, text: &str) -> Result<Term, AllocError>
     ensures { IfOk result (λ term. tree_of term ≡ trees.atom text.now) }
 {

@@ -106,3 +106,53 @@ fn a_line_over_the_limit_ends_the_run(rt: HostRuntime) -> Result<(), Fail> {
     assert_eq!(rt; replies.as_slice(), b"{started,0}\n".as_slice());
     Ok(())
 }
+
+#[test]
+fn a_second_run_reads_what_the_first_one_kept(rt: HostRuntime) -> Result<(), Fail> {
+    let mut disk = MemDisk::new(rt.alloc());
+    let (status, _) = ran(rt.alloc(), &mut disk, SCRIPT.as_bytes(), whole(7))?;
+    assert_eq!(rt; status, Status::Done);
+    let script = b"get t 2\nget t and\nput t {t,3,c}\nget t 1".as_slice();
+    let (status, replies) = ran(rt.alloc(), &mut disk, script, whole(7))?;
+    assert_eq!(rt; status, Status::Done);
+    let expected = b"{started,0}\n[{t,2,b}]\n[{t,'and',-1}]\n{atomic,ok}\n[]\n".as_slice();
+    assert_eq!(rt; replies.as_slice(), expected);
+    let (_, replies) = ran(rt.alloc(), &mut disk, b"get t 3", whole(7))?;
+    assert_eq!(rt; replies.as_slice(), b"{started,0}\n[{t,3,c}]\n".as_slice());
+    Ok(())
+}
+
+// The log of two commits with one byte changed, or with its end cut off, and the place at which a run refuses it. The first
+// item ends at 25 and the first commit at 75.
+#[test]
+fn a_log_without_a_meaning_is_refused_at_its_place(rt: HostRuntime) -> Result<(), Fail> {
+    let name = FileName::new(b"LATEST.LOG").ok_or("name")?;
+    let mut disk = MemDisk::new(rt.alloc());
+    let script = b"put t {t,1,a}\nput t {t,2,b}".as_slice();
+    let (status, _) = ran(rt.alloc(), &mut disk, script, whole(7))?;
+    assert_eq!(rt; status, Status::Done);
+    let log = disk.contents(name).ok_or("log")?.to_vec(rt.alloc())?;
+    assert_eq!(rt; log.len(), 125);
+    let changes = [
+        (0, 9, 125, 0),
+        (4, 6, 125, 4),
+        (24, 50, 125, 8),
+        (0, 1, 8, 8),
+        (45, 1, 125, 25),
+        (0, 1, 124, 75),
+        (0, 1, 30, 25),
+    ];
+    for (at, byte, len, place) in changes {
+        let mut bytes = log[..len].to_vec(rt.alloc())?;
+        if at < len {
+            bytes[at] = byte;
+        }
+        let mut disk = MemDisk::new(rt.alloc());
+        disk.put_file(name, &bytes)?;
+        let (status, replies) = ran(rt.alloc(), &mut disk, b"get t 1", whole(7))?;
+        assert_eq!(rt; status, Status::Damaged(name, place));
+        assert!(rt; replies.is_empty());
+        assert_eq!(rt; disk.contents(name).ok_or("log")?, bytes.as_slice());
+    }
+    Ok(())
+}

@@ -1,5 +1,4 @@
-use Rattle.std.proofs.Common.{◌++◌, ℕ, List, map, refl, sym, ap, subst, arith}
-use Rattle.term_core.specs.Tree.{Tree}
+use Rattle.std.proofs.Common.{◌++◌, ℕ, List, map, arith}
 use Rattle.term_core.specs.View.{tree_of}
 use Rattle.mn_run.specs.Lines.{lines_of}
 use Rattle.mn_run.specs.Machine.{down, last_of}

@@ -1,4 +1,4 @@
-use Rattle.std.proofs.Common.{◌≡◌, ◌≤◌, ◌-◌, ◌++◌, ℕ, List, map, IsTrue}
+use Rattle.std.proofs.Common.{◌≤◌, ◌-◌, ◌++◌, ℕ, List, map, IsTrue}
 use Rattle.term_core.specs.Tree.{Tree}
 use Rattle.term_core.specs.View.{tree_of}
 use Rattle.disk_logs.specs.Logs.{IsLog}

@@ -1,7 +1,6 @@
 use Rattle.std.proofs.Common.{rules, not, ap, ◌∙◌, map}
 use Rattle.std.proofs.lemmas.Fn.{filter_same}
 use Rattle.term_core.specs.Tree.{key_of}
-use Rattle.term_core.specs.declared.term.Term.{Term}
 use Rattle.term_core.specs.View.{tree_of}
 use Rattle.mn_run.specs.Tables as tables
 use Rattle.mn_run.proofs.Rows.{map-filter}

@@ -1,4 +1,4 @@
-use Rattle.std.proofs.Common.{◌≡◌, ◌++◌, [], ◌∷◌, map, if◌then◌else◌, sym, ap, ◌∙◌, inr}
+use Rattle.std.proofs.Common.{◌++◌, [], ◌∷◌, map, if◌then◌else◌, sym, ap, ◌∙◌, inr}
 use Rattle.term_core.specs.View.{tree_of}
 use Rattle.mn_run.specs.Commits.{commit_text, commits_of}
 use Rattle.mn_run.specs.Machine.{goes_on}

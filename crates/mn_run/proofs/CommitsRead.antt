@@ -1,0 +1,139 @@
+-- A commit says which record it writes.
+use Rattle.std.proofs.Common.{◌≡◌, ℕ, zero, suc, ◌≤◌, List, [], ◌∷◌, Option, Some, None, Result, Ok, Err, refl, sym, ap, subst, ◌∙◌, lit≤, Bor}
+use Rattle.std.specs.Prelude.{slice_get, MatchOption, IfOk}
+use Rattle.std.specs.Option.{option_map, option_copied}
+use Rattle.term_core.specs.Tree.{Tree, int, atom, tuple, list, bin, inner, depth}
+use Rattle.term_core.specs.View.{tree_step, tree_of, forest_of}
+use Rattle.term_core.specs.declared.term.Term.{Term, Tuple, List as ListTerm}
+use Rattle.term_core.specs.declared.term.Term.TheFolds.{fold-roll-Term}
+use Rattle.term_core.specs.declared.term.Term.TheOpen.{Term-F}
+use Rattle.term_core.specs.declared.term.Term.TheViews.{rolls-Tuple, rolls-List}
+use Rattle.term_wire.specs.Spelling.{canon, IsPlain}
+use Rattle.term_wire.specs.Decoding.{Refuses}
+use Rattle.term_wire.specs.declared.error.WireErr.{WireErr}
+use Rattle.term_wire.specs.declared.error.WireErr.TheVariants.{Bad, Outside, WideInt, TooDeep, Memory}
+use Rattle.term_wire.proofs.Again.{one_tree}
+use Rattle.mn_run.specs.Commands.{row}
+use Rattle.mn_run.specs.Commits.{IsSimple, IsRow, commit_of, commit_text, IsNoCommit, WritesNone, tree_at, part}
+use Rattle.mn_run.proofs.CommitTexts.{row_plain}
+
+-- ---- elements
+
+get_tree_at : (ts : List Term) (n : ℕ) → tree_at n (forest_of ts) ≡ option_map tree_of (slice_get ts n)
+get_tree_at [] n = refl
+get_tree_at (t ∷ ts) zero = refl
+get_tree_at (t ∷ ts) (suc n) = get_tree_at ts n
+
+found_at : (n : ℕ) (t : Tree) (ts : List Term) (r : Option (Bor Term)) → inner t ≡ forest_of ts → option_copied r ≡ slice_get ts n
+    → MatchOption r (part n t ≡ None) (λ found. part n t ≡ Some (tree_of found.now))
+found_at n t ts None is got = ap (tree_at n) is ∙ get_tree_at ts n ∙ ap (option_map tree_of) (sym got)
+found_at n t ts (Some x) is got = ap (tree_at n) is ∙ get_tree_at ts n ∙ ap (option_map tree_of) (sym got)
+
+pub part_of_tuple : (x : Term) (ts : List Term) (n : ℕ) (r : Option (Bor Term)) → x ≡ Tuple ts → option_copied r ≡ slice_get ts n
+    → MatchOption r (part n (tree_of x) ≡ None) (λ found. part n (tree_of x) ≡ Some (tree_of found.now))
+part_of_tuple x ts n r is got = found_at n (tree_of x) ts r (ap (λ (t : Term). inner (tree_of t)) (is ∙ sym (rolls-Tuple ts)) ∙ ap inner (fold-roll-Term Tree tree_step (Term-F.Tuple ts))) got
+
+pub part_of_list : (x : Term) (ts : List Term) (n : ℕ) (r : Option (Bor Term)) → x ≡ ListTerm ts → option_copied r ≡ slice_get ts n
+    → MatchOption r (part n (tree_of x) ≡ None) (λ found. part n (tree_of x) ≡ Some (tree_of found.now))
+part_of_list x ts n r is got = found_at n (tree_of x) ts r (ap (λ (t : Term). inner (tree_of t)) (is ∙ sym (rolls-List ts)) ∙ ap inner (fold-roll-Term Tree tree_step (Term-F.List ts))) got
+
+-- ---- one record
+
+some_is : {A : Type 0} (x y : A) → Some x ≡ Some y → x ≡ y
+some_is x y h = cc
+
+-- no two records have the same commit
+commit_of_injective : (a b : Tree) → commit_of a ≡ commit_of b → a ≡ b
+commit_of_injective a b same = some_is {A = Tree} a b (ap row_in same)
+  where
+    then : Option Tree → ℕ → Option Tree
+    then None n = None
+    then (Some t) n = part n t
+
+    row_in : Tree → Option Tree
+    row_in commit = then (then (part 3 commit) 0) 2
+
+pub commit_text_injective : (a b : Tree) → IsRow a → IsRow b → commit_text a ≡ commit_text b → a ≡ b
+commit_text_injective a b is_a is_b same = commit_of_injective a b (one_tree (commit_of a) (commit_of b) (row_plain a is_a) (row_plain b is_b) same)
+
+-- ---- depth
+
+simple_depth : (field : Tree) → IsSimple field → depth field ≡ 1
+simple_depth (int n) h = refl
+simple_depth (atom text) h = refl
+simple_depth (tuple ts) h = absurd h
+simple_depth (list ts) h = absurd h
+simple_depth (bin bytes) h = absurd h
+
+one_shallow : (key value : Tree) → depth key ≡ 1 → depth value ≡ 1 → depth (commit_of (row key value)) ≤ 128
+one_shallow key value k v = rw (k, v) (lit≤ tt)
+
+pub row_shallow : (item : Tree) → IsRow item → depth (commit_of item) ≤ 128
+row_shallow item h = subst (λ r. depth (commit_of r) ≤ 128) (sym h.is) (one_shallow h.key h.value (simple_depth h.key h.simple_key) (simple_depth h.value h.simple_value))
+
+-- ---- what a text is not
+
+never_refused : (e : WireErr) (t : Tree) → (e ≡ Memory → ⊥) → Refuses e (Ok t) → ⊥
+never_refused (Bad place) t h r = absurd (cc)
+never_refused (Outside tag place) t h r = absurd (cc)
+never_refused (WideInt place) t h r = absurd (cc)
+never_refused (TooDeep place) t h r = absurd (cc)
+never_refused Memory t h r = h refl
+
+-- what is refused for another reason than memory is the commit of no record
+pub refused_result : {E : Type 0} (content : List ℕ) (e : WireErr) (r : Result (Option Term) E) → ((t : Tree) → IsPlain t → depth t ≤ 128 → content ≡ canon t → Refuses e (Ok t))
+    → IfOk r (λ found. (found ≡ None) × (e ≡ Memory → ⊥))
+    → IfOk r (λ found. MatchOption found (IsNoCommit content) (λ item. IsRow (tree_of item) × (content ≡ commit_text (tree_of item))))
+refused_result content e (Ok None) only h = λ item is text. never_refused e (commit_of item) h.1 (only (commit_of item) (row_plain item is) (row_shallow item is) text)
+refused_result content e (Ok (Some item)) only h = let none : Some item ≡ None = h.0 in absurd (cc)
+refused_result content e (Err f) only h = tt
+
+-- what is read as another tree is not it either
+read_other : (content : List ℕ) (t : Tree) → IsPlain t → content ≡ canon t → WritesNone t → IsNoCommit content
+read_other content t plain found none item is text = none item is (one_tree t (commit_of item) plain (row_plain item is) (sym found ∙ text))
+
+pub read_result : {E : Type 0} (content : List ℕ) (t : Tree) (r : Result (Option Term) E) → IsPlain t → content ≡ canon t
+    → IfOk r (λ found. MatchOption found (WritesNone t) (λ item. IsRow (tree_of item) × (t ≡ commit_of (tree_of item))))
+    → IfOk r (λ found. MatchOption found (IsNoCommit content) (λ item. IsRow (tree_of item) × (content ≡ commit_text (tree_of item))))
+read_result content t (Ok None) plain found none = read_other content t plain found none
+read_result content t (Ok (Some item)) plain found both = (both.0, found ∙ ap canon both.1)
+read_result content t (Err e) plain found h = tt
+
+-- ---- what a commit does not write
+
+-- what the fields of the first write are, where the commit is that of one record
+abbrev pub HasFields : Tree → Option (Tree × Tree) → Type 0
+HasFields commit fields = (key value : Tree) → commit ≡ commit_of (row key value) → fields ≡ Some (key, value)
+
+none_with : (commit : Tree) → ((key value : Tree) → IsSimple key → IsSimple value → commit ≡ commit_of (row key value) → ⊥) → WritesNone commit
+none_with commit never item is same = never is.key is.value is.simple_key is.simple_value (same ∙ ap commit_of is.is)
+
+never_some : (fields : Tree × Tree) → None ≡ Some fields → ⊥
+never_some fields h = absurd (cc)
+
+pub none_without : (commit : Tree) → HasFields commit None → WritesNone commit
+none_without commit has = none_with commit (λ key value k v same. never_some (key, value) (has key value same))
+
+-- two fields that are these two
+abbrev SameFields : (a b key value : Tree) → Type 0
+SameFields a b key value = ◌≡◌ {A = Option (Tree × Tree)} (Some (a, b)) (Some (key, value))
+
+first_is : (a b key value : Tree) → SameFields a b key value → key ≡ a
+first_is a b key value h = let pair : Tree × Tree = (a, b) in let other : Tree × Tree = (key, value) in sym (ap (λ (f : Tree × Tree). f.0) (some_is pair other h))
+
+second_is : (a b key value : Tree) → SameFields a b key value → value ≡ b
+second_is a b key value h = let pair : Tree × Tree = (a, b) in let other : Tree × Tree = (key, value) in sym (ap (λ (f : Tree × Tree). f.1) (some_is pair other h))
+
+pub none_by_key : (commit a b : Tree) → HasFields commit (Some (a, b)) → (IsSimple a → ⊥) → WritesNone commit
+none_by_key commit a b has not_simple = none_with commit (λ key value k v same. not_simple (subst IsSimple (first_is a b key value (has key value same)) k))
+
+pub none_by_value : (commit a b : Tree) → HasFields commit (Some (a, b)) → (IsSimple b → ⊥) → WritesNone commit
+none_by_value commit a b has not_simple = none_with commit (λ key value k v same. not_simple (subst IsSimple (second_is a b key value (has key value same)) v))
+
+pub none_by_rest : (commit made item a b : Tree) → HasFields commit (Some (a, b)) → item ≡ row a b → made ≡ commit_of item → (made ≡ commit → ⊥) → WritesNone commit
+none_by_rest commit made item a b has is built other =
+    none_with commit (λ key value k v same.
+    let e : SameFields a b key value = has key value same in
+    let first : key ≡ a = first_is a b key value e in
+    let second : value ≡ b = second_is a b key value e in
+    other (built ∙ ap commit_of (is ∙ (λ i. row (sym first i) (sym second i))) ∙ sym same))

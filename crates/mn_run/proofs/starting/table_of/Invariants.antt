@@ -1,0 +1,18 @@
+use Rattle.std.proofs.Common.{◌≡◌, ◌≤◌, ◌-◌, ◌++◌, List, [], length, drop, map}
+use Rattle.term_core.specs.Tree.{Tree}
+use Rattle.term_core.specs.View.{tree_of}
+use Rattle.mn_run.specs.Commits.{AreRows, commits_of}
+use Rattle.mn_run.specs.Tables.{records_of, written}
+use Rattle.mn_run.proofs.starting.table_of.Given as goal
+
+abbrev pub invariant-items : goal.invariant-items
+invariant-items l = record {
+  rows : List Tree;
+  good : AreRows rows;
+  is : l.items ≡ commits_of rows ++ drop l.number l.items;
+  same : (key : Tree) → records_of key (map tree_of l.table.rows.items) ≡ records_of key (written rows []);
+  within : l.number ≤ length l.items;
+}
+
+abbrev pub decreases-items : goal.decreases-items
+decreases-items l = length l.items - l.number
