@@ -4,6 +4,7 @@ pub mod AtomNames
 pub mod CommitTexts
 pub mod CommitsRead
 pub mod Digits
+pub mod Directories
 pub mod Ends
 pub mod Fields
 pub mod Joining

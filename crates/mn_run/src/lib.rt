@@ -6,6 +6,7 @@ mod asks;
 mod commands;
 mod commits;
 mod host;
+mod laws;
 mod lines;
 mod names;
 mod node;
@@ -20,6 +21,7 @@ mod words;
 
 pub use commands::line_laws;
 pub use host::{HostDisk, HostIn, HostOut};
+pub use laws::directory_law;
 pub use outcome::{Outcome, Status};
 pub use running::run;
 
