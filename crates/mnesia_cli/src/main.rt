@@ -2,7 +2,8 @@
 //! the directory DIR, and answers each with a line. Its exit status is the status of the run.
 #![tactic(auto)]
 
-ghost use Rattle.std.specs.Prelude.{◌≤◌, ◌↔◌, IsTrue, length, map, string_bytes};
+ghost use Rattle.std.specs.Prelude.{◌≡◌, ◌≤◌, ◌⊎◌, ◌↔◌, IsTrue, length, map, string_bytes};
+ghost use Rattle.mn_run.specs.Words.{HasForm};
 ghost use Rattle.mnesia_cli.specs.Words.{IsDirectory, Names};
 
 use mn_run::{HostDisk, HostIn, HostOut, Status, run};
@@ -38,12 +39,15 @@ fn directory(words: &[String]) -> &str
     }
 }
 
-fn run_on<R: Files + Input + Print + AllocGlobal>(rt: &R, words: &[String]) -> Status {
+fn run_on<R: Files + Input + Print + AllocGlobal>(rt: &R, words: &[String]) -> Status
+    ensures usage { result ≡ Status.Usage → HasForm (map string_bytes words.now) → ⊥ }
+    ensures refused { (HasForm (map string_bytes words.now) → ⊥) → (result ≡ Status.Usage) ⊎ (result ≡ Status.Memory) }
+{
     let alloc = rt.alloc();
     let Ok(mut disk) = HostDisk::new(rt, alloc, directory(words)) else {
         return Status::Memory;
     };
-    let (mut script, mut out) = (HostIn::new(rt), HostOut::new(rt));
+    let (mut script, mut out) = (HostIn::new(rt.reader()), HostOut::new(io::writer(rt)));
     run(alloc, words, &mut disk, &mut script, &mut out).status
 }
 

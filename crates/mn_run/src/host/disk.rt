@@ -1,6 +1,6 @@
 //! The disk of the operating system.
 
-ghost use Rattle.std.specs.Prelude.{◌≡◌, ◌≤◌, None, false, MatchResult, Ok, length};
+ghost use Rattle.std.specs.Prelude.{◌≡◌, ◌≤◌, None, false, IfOk, MatchResult, Ok, length};
 ghost use Rattle.file_trait.specs.Calls.{Cause};
 ghost use Rattle.file_trait.specs.DiskModel.{handed};
 ghost use Rattle.file_trait.specs.Faults.{names_of};
@@ -23,6 +23,7 @@ impl<'r, R: Files> HostDisk<'r, R> {
     pub fn new(rt: &'r R, alloc: Global, dir: &str) -> Result<HostDisk<'r, R>, AllocError>
         requires some { 1 ≤ length dir.now }
         requires short { length dir.now ≤ 4096 }
+        ensures unblamed { IfOk result (λ disk. disk.faults.count ≡ 0) }
     {
         Ok(HostDisk {
             folder: Folder::new(rt, alloc, dir)?,

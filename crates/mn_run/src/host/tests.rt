@@ -1,5 +1,6 @@
 use super::{HostDisk, HostIn, HostOut};
-use file_trait::{Disk, DiskErr, FileName, Sink, Source, write_all};
+use file_trait::{Disk, DiskErr, FileName, Sink, SinkErr, Source, SrcErr, write_all};
+use std::io::{self, ErrorKind, Read, Write};
 use std::rt::Files;
 use std::test::Fail;
 
@@ -66,9 +67,35 @@ fn no_stale_file_is_written(rt: HostRuntime) -> Result<(), Fail> {
 
 #[test]
 fn standard_streams_are_called(rt: HostRuntime) -> Result<(), Fail> {
-    assert_eq!(rt; HostIn::new(&rt).read(&mut []), Ok(0));
-    let mut out = HostOut::new(&rt);
+    assert_eq!(rt; HostIn::new(rt.reader()).read(&mut []), Ok(0));
+    let mut out = HostOut::new(io::writer(&rt));
     assert_eq!(rt; out.write(b""), Ok(0));
     assert_eq!(rt; write_all(&mut out, b"written by a test\n"), Ok(()));
     Ok(())
+}
+
+// A reader and writer whose every call fails.
+#[derive(Drop)]
+struct Failing;
+
+impl Read for Failing {
+    fn read(&mut self, _buf: &mut [u8]) -> io::Result<usize> {
+        Err(ErrorKind::BrokenPipe.into())
+    }
+}
+
+impl Write for Failing {
+    fn write(&mut self, _buf: &[u8]) -> io::Result<usize> {
+        Err(ErrorKind::BrokenPipe.into())
+    }
+
+    fn flush(&mut self) -> io::Result<()> {
+        Ok(())
+    }
+}
+
+#[test]
+fn errors_are_answered(rt: HostRuntime) {
+    assert_eq!(rt; HostIn::new(Failing).read(&mut [0; 4]), Err(SrcErr::Failed));
+    assert_eq!(rt; HostOut::new(Failing).write(b"four"), Err(SinkErr::Failed));
 }
