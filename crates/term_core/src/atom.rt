@@ -5,10 +5,13 @@ ghost use Rattle.std.specs.Str.{chars};
 ghost use Rattle.std.specs.Ordering.{nat_cmp, eq_by_cmp, as_partial_cmp};
 ghost use Rattle.std.specs.Cmp.{partial_equiv_from_equiv, eq_by_cmp_equiv, partial_order_from_agreeing_total};
 ghost use Rattle.std.specs.Cmp.Lexicographic.{slice_cmp, nat_list_cmp_total};
+ghost use Rattle.std.specs.Hash as fed;
+ghost use Rattle.term_core.specs.Hashed.{alike};
 
 use crate::error::TermErr;
 use std::alloc::Global;
 use std::cmp::Ordering;
+use std::hash::{Hash, Hasher};
 use std::marker::Model;
 
 /// The characters of the longest atom.
@@ -111,5 +114,15 @@ impl PartialOrd for Atom {
 
     fn partial_cmp(&self, other: &Atom) -> Option<Ordering> {
         Some(self.cmp(other))
+    }
+}
+
+impl Hash for Atom {
+    ghost hash_input = { λ a. fed.str a };
+
+    ghost respects_eq = { alike };
+
+    fn hash<H: Hasher>(&self, state: &mut H) {
+        self.text().hash(state);
     }
 }

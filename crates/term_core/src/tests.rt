@@ -1,8 +1,9 @@
 //! The order of terms by a table, and each public function once.
 
-use crate::{Atom, Term, TermErr};
+use crate::{Atom, Term, TermErr, character_law, order_law, wire_len};
 use sqlite_items::Items;
 use std::alloc::Global;
+use std::hash::{DefaultHasher, Hash, Hasher};
 use std::test::Fail;
 
 fn atom(alloc: Global, text: &str) -> Result<Term, TermErr> {
@@ -77,5 +78,53 @@ fn a_long_atom(rt: HostRuntime) -> Result<(), Fail> {
     let atom = Atom::new(rt.alloc(), text.as_str())?;
     assert!(rt; atom.try_clone(rt.alloc())? == atom);
     assert_eq!(rt; atom.text().len(), 510);
+    Ok(())
+}
+
+// The bytes of tags, counts and contents, counted by hand.
+#[test]
+fn lengths_of_written_texts(rt: HostRuntime) -> Result<(), Fail> {
+    for (number, len) in [
+        (0, 3),
+        (255, 3),
+        (256, 6),
+        (-1, 6),
+        (1 << 31, 8),
+        (i128::MIN, 20),
+    ] {
+        assert_eq!(rt; wire_len(&Term::Int(number)), len, "{number}");
+    }
+    let long = "ü".repeat(rt.alloc(), 200)?;
+    for (text, len) in [("ann", 6), (long.as_str(), 404)] {
+        assert_eq!(rt; wire_len(&atom(rt.alloc(), text)?), len, "{text}");
+    }
+    let mut numbers = Items::new(rt.alloc());
+    numbers.push(Term::Int(7))?;
+    let bytes = Term::List(numbers);
+    for (term, len) in [
+        (&bytes, 5),
+        (&Term::List(atoms(rt.alloc(), &["ann", "a"])?), 15),
+        (&Term::Tuple(atoms(rt.alloc(), &["ann", "a"])?), 11),
+        (&Term::Bin(Items::from_slice(rt.alloc(), b"four")?), 10),
+    ] {
+        assert_eq!(rt; wire_len(term), len);
+    }
+    Ok(())
+}
+
+fn hash_of(atom: &Atom) -> u64 {
+    let mut state = DefaultHasher::new();
+    atom.hash(&mut state);
+    state.finish()
+}
+
+#[test]
+fn equal_atoms_hash_alike(rt: HostRuntime) -> Result<(), Fail> {
+    let atom = Atom::new(rt.alloc(), "ann")?;
+    let other = Atom::new(rt.alloc(), "bob")?;
+    assert_eq!(rt; hash_of(&atom.try_clone(rt.alloc())?), hash_of(&atom));
+    assert_ne!(rt; hash_of(&other), hash_of(&atom));
+    order_law();
+    character_law();
     Ok(())
 }

@@ -1,0 +1,11 @@
+use Rattle.std.proofs.Common.{◌≡◌, rules, sym, length, false}
+use Rattle.term_core.specs.Written.{fits_byte, fits_word, digits_of}
+use Rattle.term_core.proofs.Lengths.{length-number}
+use Rattle.term_core.proofs.length.number_len.Goals as goal
+
+pub returns-else-is_ok : goal.returns-else-is_ok
+returns-else-is_ok c =
+    let byte : fits_byte c.args.number ≡ false = search rules in
+    let word : fits_word c.args.number ≡ false = search rules in
+    let digits : c.digits_len.result ≡ length (digits_of c.args.number) = search rules in
+    rw digits (sym (length-number c.args.number byte word))
