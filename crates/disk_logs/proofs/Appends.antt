@@ -9,9 +9,9 @@ use Rattle.file_trait.proofs.Names.{other_name, same_name_refl}
 use Rattle.file_trait.proofs.Files.{file_changed, reads_rename}
 use Rattle.disk_logs.specs.declared.error.LogErr.{LogErr}
 use Rattle.disk_logs.specs.Errors.{told}
-use Rattle.disk_logs.specs.Items.{wire, log_bytes}
+use Rattle.log_items.specs.Items.{wire, log_bytes}
 use Rattle.disk_logs.specs.Logs.{Handle, draft_name, file_of, IsLog, HasAppended, IsMoved}
-use Rattle.disk_logs.proofs.ItemLemmas.{log_bytes-append}
+use Rattle.log_items.proofs.ItemLemmas.{log_bytes-append}
 use Rattle.disk_logs.proofs.Effects.{done_ok, done_kept, kept_file, synced_dir_kept}
 
 long : (closed : Bool) (items : List (List ℕ)) → 8 ≤ length (log_bytes closed items)

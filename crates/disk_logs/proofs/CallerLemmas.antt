@@ -1,11 +1,13 @@
 -- What callers need of a log.
-use Rattle.std.proofs.Common.{◌≡◌, ℕ, true, false, List, [], ◌∷◌, ◌++◌, Some, is_some, Result, Ok, Err, OnOk, sym, ap, ◌∙◌, subst}
+use Rattle.std.proofs.Common.{◌≡◌, ℕ, true, false, List, [], ◌∷◌, ◌++◌, Option, Some, is_some, Result, Ok, Err, OnOk, refl, sym, ap, ◌∙◌, subst}
 use Rattle.std.proofs.lemmas.List.{append-nil}
 use Rattle.std.proofs.lemmas.List.Elements.{All-nil, All-cons}
 use Rattle.file_trait.specs.DiskModel.{Past, reads}
 use Rattle.file_trait.specs.Calls.{IsThere}
-use Rattle.disk_logs.specs.Items.{item_bytes, log_bytes, IsSmall}
-use Rattle.disk_logs.specs.Logs.{Handle, draft_name, file_of, opened, IsLog, AreItems, IsMoved}
+use Rattle.log_items.specs.Items.{item_bytes, log_bytes, IsContent}
+use Rattle.log_items.proofs.Unique.{whole_file}
+use Rattle.disk_logs.specs.Chunks.{HasPlace}
+use Rattle.disk_logs.specs.Logs.{Handle, draft_name, file_of, opened, IsLog, AreItems, IsMoved, Finds}
 
 -- a draft that was published
 pub published_log : (past_old past_new : Past) (draft log : Handle) (name : List ℕ) (all : List (List ℕ)) → draft ≡ record { name = name; draft = true; closed = true }
@@ -24,11 +26,17 @@ pub log_there : (past : Past) (log : Handle) → IsLog past log → IsThere past
 log_there past log (all, here) = ap is_some here
 
 -- one item as put_item lays it out
-pub one_item : (bytes before content : List ℕ) → IsSmall content → before ≡ [] → bytes ≡ before ++ item_bytes content → AreItems bytes
-one_item bytes before content small none is =
-    (content ∷ [], All-cons IsSmall content [] small (All-nil IsSmall), is ∙ ap (λ z. z ++ item_bytes content) none ∙ sym (append-nil (item_bytes content)))
+pub one_item : (bytes before content : List ℕ) → IsContent content → before ≡ [] → bytes ≡ before ++ item_bytes content → AreItems bytes
+one_item bytes before content fit none is =
+    (content ∷ [], All-cons IsContent content [] fit (All-nil IsContent), is ∙ ap (λ z. z ++ item_bytes content) none ∙ sym (append-nil (item_bytes content)))
 
 -- a log after a sync
 pub synced_log : {T E : Type 0} (r : Result T E) (past new : Past) (log now : Handle) → IsLog past log → now ≡ log → ((other : List ℕ) → reads new other ≡ reads past other) → OnOk r (IsLog new now)
 synced_log (Err e) past new log now is same kept = tt
 synced_log (Ok x) past new log now (all, here) same kept = subst (IsLog new) (sym same) (all, kept (file_of log) ∙ here)
+
+-- the items of a log that was found begin behind its head
+pub first_place : {T : Type 0} (past now : Past) (name : List ℕ) (found : Option T) (log : T) → found ≡ Some log → Finds (Ok found) (reads past name) → now ≡ past → HasPlace now name 8
+first_place past now name found log is finds same =
+    let (bytes, here, (items, fit, whole)) = subst (λ f. Finds (Ok f) (reads past name)) is finds in
+    (bytes, items, 0, ap (λ p. reads p name) same ∙ here, ((true, whole_file true bytes items fit whole), refl))

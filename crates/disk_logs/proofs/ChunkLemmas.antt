@@ -1,5 +1,5 @@
 -- Items and their places.
-use Rattle.std.proofs.Common.{◌≡◌, ◌⊎◌, inl, inr, ℕ, ◌+◌, ◌<◌, ◌≤◌, Bool, true, false, List, [], ◌∷◌, ◌++◌, length, take, drop, Option, None, Some, option_map, Result, Ok, Err, IfOk, OnErr, refl, sym, ap, ◌∙◌, subst, arith, append_assoc, length-append}
+use Rattle.std.proofs.Common.{◌≡◌, inl, ℕ, ◌+◌, ◌<◌, ◌≤◌, Bool, true, false, List, [], ◌∷◌, ◌++◌, length, take, drop, Option, None, Some, option_map, Result, Ok, Err, IfOk, OnErr, refl, sym, ap, ◌∙◌, subst, arith, append_assoc, length-append}
 use Rattle.std.proofs.lemmas.List.{append-nil, take_all, take-append-drop, drop-drop, drop_at, drop-append-le}
 use Rattle.std.proofs.lemmas.List.Elements.{All-push, All-drop}
 use Rattle.file_trait.specs.declared.disk.DiskErr.{DiskErr}
@@ -9,11 +9,11 @@ use Rattle.disk_logs.specs.Errors.{told, OnlyFileOrMemory}
 use Rattle.disk_logs.proofs.Effects.{told_ok}
 use Rattle.disk_logs.specs.declared.chunks.Chunk.{Chunk}
 use Rattle.disk_logs.specs.Chunks.{places_of, AreCounted, IsPlace, HasPlace}
-use Rattle.disk_logs.specs.Items.{head_bytes, item_bytes, wire, log_bytes, IsSmall, AreSmall, IsIncomplete}
-use Rattle.disk_logs.specs.Scan.{StartsWith, StartsNoItem}
-use Rattle.disk_logs.proofs.ItemLemmas.{length-item_bytes, wire-append}
-use Rattle.disk_logs.proofs.ScanLemmas.{one_more}
-use Rattle.disk_logs.proofs.Unique.{front_items, same_items, tail_starts_none}
+use Rattle.log_items.specs.Items.{head_bytes, item_bytes, wire, log_bytes, IsContent, AreContents, IsEnd}
+use Rattle.log_items.specs.Scan.{StartsWith, StartsNoItem}
+use Rattle.log_items.proofs.ItemLemmas.{wire-append}
+use Rattle.log_items.proofs.ItemLemmas.{one_more}
+use Rattle.log_items.proofs.Unique.{front_items, same_items, end_starts_none}
 
 places_of-append : (from : ℕ) (items more : List (List ℕ)) → places_of from (items ++ more) ≡ places_of from items ++ places_of (from + length (wire items)) more
 places_of-append from [] more = ap (λ n. places_of n more) (omega arith)
@@ -21,10 +21,10 @@ places_of-append from (item ∷ items) more =
     let here : from + length (item_bytes item) + length (wire items) ≡ from + length (item_bytes item ++ wire items) = omega (arith, length-append (item_bytes item) (wire items)) in
     ap (λ z. from ∷ z) (places_of-append (from + length (item_bytes item)) items more ∙ ap (λ n. places_of (from + length (item_bytes item)) items ++ places_of n more) here)
 
-pub counted_more : (from : ℕ) (old new : Chunk) (content : List ℕ) → IsSmall content → new.items ≡ old.items ++ content ∷ [] → new.places.items ≡ old.places.items ++ old.next ∷ []
-    → new.next ≡ old.next + (8 + length content) → AreCounted from old → AreCounted from new
-counted_more from old new content small items places next counted = record {
-  small = subst AreSmall (sym items) (All-push IsSmall old.items content counted.small small);
+pub counted_more : (from : ℕ) (old new : Chunk) (content : List ℕ) → IsContent content → new.items ≡ old.items ++ content ∷ [] → new.places.items ≡ old.places.items ++ old.next ∷ []
+    → new.next ≡ old.next + length (item_bytes content) → AreCounted from old → AreCounted from new
+counted_more from old new content fits items places next counted = record {
+  fit = subst AreContents (sym items) (All-push IsContent old.items content counted.fit fits);
   places =
       places ∙ ap (λ z. z ++ old.next ∷ []) counted.places ∙ ap (λ n. places_of from old.items ++ n ∷ []) counted.next
       ∙ sym (ap (λ z. places_of from z) items ∙ places_of-append from old.items (content ∷ []));
@@ -36,7 +36,6 @@ counted_more from old new content small items places next counted = record {
     ap length (wire-append old.items (content ∷ [])),
     length-append (wire old.items) (item_bytes content ++ []),
     ap length (append-nil (item_bytes content)),
-    length-item_bytes content,
   );
 }
 
@@ -48,16 +47,16 @@ moved items now content rest after whole grown is same =
 pub front_more : (bytes front rest content after : List ℕ) → bytes ≡ front ++ rest → rest ≡ item_bytes content ++ after → bytes ≡ (front ++ item_bytes content) ++ after
 front_more bytes front rest content after is next = is ∙ ap (λ z. front ++ z) next ∙ sym (append_assoc front (item_bytes content) after)
 
-pub rest_length : (rest content after : List ℕ) → rest ≡ item_bytes content ++ after → length rest ≡ 8 + length content + length after
-rest_length rest content after is = omega (arith, ap length is, length-append (item_bytes content) after, length-item_bytes content)
+pub rest_length : (rest content after : List ℕ) → rest ≡ item_bytes content ++ after → length rest ≡ length (item_bytes content) + length after
+rest_length rest content after is = ap length is ∙ length-append (item_bytes content) after
 
 -- ---- a file from a place on
 
 -- what stands there: the items from this number on, and behind them no whole one
 pub record Left (file : List ℕ) (all : List (List ℕ)) (n from : ℕ) : Type 0 where
   pub tail : List ℕ
-  pub end : (tail ≡ []) ⊎ IsIncomplete tail
-  pub small : AreSmall (drop n all)
+  pub end : IsEnd false tail
+  pub fit : AreContents (drop n all)
   pub is : drop from file ≡ wire (drop n all) ++ tail
 
 split_wire : (n : ℕ) (all : List (List ℕ)) → wire all ≡ wire (take n all) ++ wire (drop n all)
@@ -73,47 +72,44 @@ behind_place closed file tail all n from place is =
     behind true = ap (λ z. z ++ tail) (split_wire n all) ∙ append_assoc (wire (take n all)) (wire (drop n all)) tail
     behind false = ap (λ z. z ++ tail) (split_wire n all) ∙ append_assoc (wire (take n all)) (wire (drop n all)) tail
 
+-- a chunk does not ask for the mark
+any_end : (closed : Bool) (rest : List ℕ) → IsEnd closed rest → IsEnd false rest
+any_end true rest is = inl is
+any_end false rest end = end
+
 pub left_at : (file : List ℕ) (all : List (List ℕ)) (n from : ℕ) → IsPlace file all n from → Left file all n from
-left_at file all n from ((small, inl is), place) = record {
-  tail = [];
-  end = inl refl;
-  small = All-drop IsSmall n all small;
-  is = behind_place true file [] all n from place (is ∙ sym (append-nil (log_bytes true all)));
-}
-left_at file all n from ((small, inr (tail, end, is)), place) = record {
-  tail = tail;
-  end = end;
-  small = All-drop IsSmall n all small;
-  is = behind_place false file tail all n from place is;
+left_at file all n from ((closed, whole), place) = record {
+  tail = whole.rest;
+  end = any_end closed whole.rest whole.end;
+  fit = All-drop IsContent n all whole.fit;
+  is = behind_place closed file whole.rest all n from place whole.is;
 }
 
 -- as many items as were asked for
-pub chunk_full : (file bytes rest : List ℕ) (all found : List (List ℕ)) (n from most : ℕ) → IsPlace file all n from → StartsWith bytes (drop from file) → AreSmall found
+pub chunk_full : (file bytes rest : List ℕ) (all found : List (List ℕ)) (n from most : ℕ) → IsPlace file all n from → StartsWith bytes (drop from file) → AreContents found
     → wire found ++ rest ≡ bytes → length found ≡ most → found ≡ take most (drop n all)
-chunk_full file bytes rest all found n from most place (more, starts) small whole full =
+chunk_full file bytes rest all found n from most place (more, starts) fit whole full =
     let left = left_at file all n from place in
-    (front_items found (drop n all) (rest ++ more) left.tail small left.small (tail_starts_none left.tail left.end)
+    (front_items found (drop n all) (rest ++ more) left.tail fit left.fit (end_starts_none false left.tail left.end)
     (sym (append_assoc (wire found) rest more) ∙ ap (λ z. z ++ more) whole ∙ sym starts ∙ left.is)).0
     ∙ ap (λ k. take k (drop n all)) full
 
 -- all items that are left
-ended : (file bytes rest : List ℕ) (all found : List (List ℕ)) (n from : ℕ) (left : Left file all n from) → bytes ≡ drop from file → AreSmall found → wire found ++ rest ≡ bytes → StartsNoItem rest
+ended : (file bytes rest : List ℕ) (all found : List (List ℕ)) (n from : ℕ) (left : Left file all n from) → bytes ≡ drop from file → AreContents found → wire found ++ rest ≡ bytes → StartsNoItem rest
     → (found ≡ drop n all) × (rest ≡ left.tail)
-ended file bytes rest all found n from left is small whole none =
-    same_items found (drop n all) rest left.tail small left.small none (tail_starts_none left.tail left.end) (whole ∙ is ∙ left.is)
+ended file bytes rest all found n from left is fit whole none =
+    same_items found (drop n all) rest left.tail fit left.fit none (end_starts_none false left.tail left.end) (whole ∙ is ∙ left.is)
 
-pub chunk_ended : (file bytes rest : List ℕ) (all found : List (List ℕ)) (n from most : ℕ) → IsPlace file all n from → bytes ≡ drop from file → AreSmall found → wire found ++ rest ≡ bytes
+pub chunk_ended : (file bytes rest : List ℕ) (all found : List (List ℕ)) (n from most : ℕ) → IsPlace file all n from → bytes ≡ drop from file → AreContents found → wire found ++ rest ≡ bytes
     → StartsNoItem rest → length found < most → found ≡ take most (drop n all)
-chunk_ended file bytes rest all found n from most place is small whole none fewer =
-    let same = (ended file bytes rest all found n from (left_at file all n from place) is small whole none).0 in
+chunk_ended file bytes rest all found n from most place is fit whole none fewer =
+    let same = (ended file bytes rest all found n from (left_at file all n from place) is fit whole none).0 in
     same ∙ sym (take_all most (drop n all) (omega (arith, ap length same, fewer)))
 
-pub end_is : (file bytes rest : List ℕ) (all found : List (List ℕ)) (n from : ℕ) → IsPlace file all n from → bytes ≡ drop from file → AreSmall found → wire found ++ rest ≡ bytes → StartsNoItem rest
-    → (rest ≡ []) ⊎ IsIncomplete rest
-end_is file bytes rest all found n from place is small whole none =
-    let left = left_at file all n from place in
-    let P : List ℕ → Type 0 = λ t. (t ≡ []) ⊎ IsIncomplete t in
-    subst P (sym (ended file bytes rest all found n from left is small whole none).1) left.end
+pub end_is : (file bytes rest : List ℕ) (all found : List (List ℕ)) (n from : ℕ) → IsPlace file all n from → bytes ≡ drop from file → AreContents found → wire found ++ rest ≡ bytes
+    → StartsNoItem rest → IsEnd false rest
+end_is file bytes rest all found n from place is fit whole none =
+    let left = left_at file all n from place in subst (IsEnd false) (sym (ended file bytes rest all found n from left is fit whole none).1) left.end
 
 -- one more piece, and more items from it
 pub piece_taken : (bytes longer lent : List ℕ) (items now : List (List ℕ)) (taken at : ℕ) → taken ≤ length bytes → StartsWith bytes longer → lent ≡ longer → wire items ++ drop taken bytes ≡ bytes
@@ -129,12 +125,9 @@ pub end_items : (r : Result Chunk LogErr) (found : Chunk) (items : List (List �
 end_items (Ok chunk) found items is same = ap (λ (c : Chunk). c.items) is ∙ same
 end_items (Err e) found items is same = tt
 
-pub end_told : (r : Result Chunk LogErr) (lent rest : List ℕ) (taken : ℕ) → drop taken lent ≡ rest → OnErr r (¬ ((drop taken lent ≡ []) ⊎ IsIncomplete (drop taken lent)))
-    → (rest ≡ []) ⊎ IsIncomplete rest → OnlyFileOrMemory r
+pub end_told : (r : Result Chunk LogErr) (lent rest : List ℕ) (taken : ℕ) → drop taken lent ≡ rest → OnErr r (¬ IsEnd false (drop taken lent)) → IsEnd false rest → OnlyFileOrMemory r
 end_told (Ok chunk) lent rest taken same none end = tt
-end_told (Err e) lent rest taken same none end =
-    let P : List ℕ → Type 0 = λ t. (t ≡ []) ⊎ IsIncomplete t in
-    absurd (none (subst P (sym same) end))
+end_told (Err e) lent rest taken same none end = absurd (none (subst (IsEnd false) (sym same) end))
 
 -- ---- the answers of the disk
 
@@ -153,8 +146,7 @@ place_within closed file tail all n from place is =
     )
 
 pub within_file : (file : List ℕ) (all : List (List ℕ)) (n from : ℕ) → IsPlace file all n from → from ≤ length file
-within_file file all n from ((small, inl is), place) = place_within true file [] all n from place (is ∙ sym (append-nil (log_bytes true all)))
-within_file file all n from ((small, inr (tail, end, is)), place) = place_within false file tail all n from place is
+within_file file all n from ((closed, whole), place) = place_within closed file whole.rest all n from place whole.is
 
 -- the length that the disk told
 pub len_told : (past : Past) (name : List ℕ) (r : Result (Option ℕ) DiskErr) (t : Result (Option ℕ) LogErr) (x : Option ℕ) → t ≡ told name r → t ≡ Ok x

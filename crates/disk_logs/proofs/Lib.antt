@@ -1,10 +1,7 @@
 pub mod Appends
 pub mod CallerLemmas
 pub mod ChunkLemmas
+pub mod ClosedLogs
 pub mod Drafts
 pub mod Effects
-pub mod Incomplete
-pub mod ItemLemmas
 pub mod ReadLemmas
-pub mod ScanLemmas
-pub mod Unique

@@ -6,7 +6,7 @@ use Rattle.file_trait.specs.DiskModel.{Past, reads}
 use Rattle.file_trait.specs.Calls.{Has, Copied}
 use Rattle.disk_logs.specs.declared.error.LogErr.{LogErr}
 use Rattle.disk_logs.specs.Errors.{told}
-use Rattle.disk_logs.specs.Scan.{StartsWith}
+use Rattle.log_items.specs.Scan.{StartsWith}
 use Rattle.disk_logs.proofs.Effects.{told_ok}
 
 copied_from : (past : Past) (name : List ℕ) (at : ℕ) (into after : List ℕ) (n : ℕ) (file : List ℕ) → reads past name ≡ Some file

@@ -2,7 +2,7 @@
 use Rattle.std.specs.Prelude.{◌≡◌, ◌↔◌, ℕ, ◌+◌, ◌<◌, ◌≤◌, IsTrue, List, [], ◌∷◌, length, take, Some}
 use Rattle.file_trait.specs.DiskModel.{Past, reads}
 use Rattle.disk_logs.specs.declared.chunks.Chunk.{Chunk}
-use Rattle.disk_logs.specs.Items.{item_bytes, wire, AreSmall, HasItems}
+use Rattle.log_items.specs.Items.{item_bytes, wire, AreContents, HasItems}
 
 -- the place of the first byte of each item, where the first of them stands at `from`
 abbrev pub places_of : ℕ → List (List ℕ) → List ℕ
@@ -17,9 +17,9 @@ IsPlace bytes all n from = HasItems bytes all × (from ≡ 8 + length (wire (tak
 abbrev pub HasPlace : Past → List ℕ → ℕ → Type 0
 HasPlace past name from = (bytes : List ℕ) × (all : List (List ℕ)) × (n : ℕ) × (reads past name ≡ Some bytes) × IsPlace bytes all n from
 
--- small items, with their places from `from` on and the place behind them
+-- items, with their places from `from` on and the place behind them
 pub record AreCounted (from : ℕ) (chunk : Chunk) : Type 0 where
-  pub small : AreSmall chunk.items
+  pub fit : AreContents chunk.items
   pub places : chunk.places.items ≡ places_of from chunk.items
   pub next : chunk.next ≡ from + length (wire chunk.items)
 

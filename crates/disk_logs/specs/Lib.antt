@@ -1,5 +1,4 @@
 pub mod Chunks
+pub mod Closed
 pub mod Errors
-pub mod Items
 pub mod Logs
-pub mod Scan

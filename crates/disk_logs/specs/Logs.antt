@@ -3,8 +3,8 @@ use Rattle.std.specs.Prelude.{◌≡◌, ◌⊎◌, ℕ, ◌<◌, ◌≤◌, Boo
 use Rattle.file_trait.specs.DiskModel.{Past, reads}
 use Rattle.disk_logs.specs.declared.error.LogErr.{LogErr}
 use Rattle.disk_logs.specs.declared.error.LogErr.TheVariants.{File, Bad, TooLong, Memory}
-use Rattle.disk_logs.specs.Items.{wire, log_bytes, AreSmall}
-use Rattle.disk_logs.specs.Scan.{IsClosedLog, IsBadAt}
+use Rattle.disk_logs.specs.Closed.{IsClosedLog, IsBadAt}
+use Rattle.log_items.specs.Items.{wire, log_bytes, AreContents}
 
 -- a log: the name that it has or will have, whether its file is a draft, and whether its mark says closed
 pub record Handle : Type 0 where
@@ -32,9 +32,9 @@ opened log = with_mark (log.draft && log.closed) log
 abbrev pub IsLog : Past → Handle → Type 0
 IsLog past log = (all : List (List ℕ)) × (reads past (file_of log) ≡ Some (log_bytes log.closed all))
 
--- whole small items
+-- whole items
 abbrev pub AreItems : List ℕ → Type 0
-AreItems bytes = (items : List (List ℕ)) × AreSmall items × (bytes ≡ wire items)
+AreItems bytes = (items : List (List ℕ)) × AreContents items × (bytes ≡ wire items)
 
 -- What an append leaves of a file, where the log's mark is `closed` after it, and `set` was to be set before: with the new
 -- items, or where memory was wanting without them. Where the disk failed, a front of the new bytes, and where that is not empty

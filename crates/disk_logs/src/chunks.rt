@@ -4,12 +4,12 @@ ghost use Rattle.std.specs.Prelude.{◌≡◌, ◌+◌, ◌-◌, ◌<◌, ◌≤
 ghost use Rattle.file_trait.specs.DiskModel.{reads};
 ghost use Rattle.disk_logs.specs.Chunks.{AreCounted, IsChunk, IsPlace, HasPlace};
 ghost use Rattle.disk_logs.specs.Errors.{OnlyFileOrMemory, LogCause};
-ghost use Rattle.disk_logs.specs.Items.{wire, IsSmall, IsIncomplete};
-ghost use Rattle.disk_logs.specs.Scan.{StartsNoItem};
+ghost use Rattle.log_items.specs.Items.{item_bytes, wire, IsContent, IsEnd};
+ghost use Rattle.log_items.specs.Scan.{StartsNoItem};
 
-use crate::scan::{first_item, is_incomplete};
 use crate::{Items, LogErr};
 use file_trait::FileName;
+use log_items::{first_item, is_incomplete};
 use std::alloc::{AllocError, Global};
 
 /// Items of a log, in order.
@@ -40,19 +40,19 @@ impl Chunk {
         }
     }
 
-    // Puts an item at the end.
-    fn push(&mut self, alloc: Global, content: &[u8]) -> Result<(), AllocError>
-        requires small { IsSmall content.now }
-        requires fits { self.old.next + 8 + length content.now < 2 ^ 64 }
+    // Puts an item at the end, behind which the place is `next`.
+    fn push(&mut self, alloc: Global, content: &[u8], next: u64) -> Result<(), AllocError>
+        requires fits { IsContent content.now }
+        requires place { next ≡ self.old.next + length (item_bytes content.now) }
         ensures items { OnOk result (self.new.items ≡ self.old.items ++ content.now ∷ []) }
         ensures counted { (from : ℕ) → AreCounted from self.old → OnOk result (AreCounted from self.new) }
-        ensures next { OnOk result (self.new.next ≡ self.old.next + 8 + length content.now) }
+        ensures next { OnOk result (self.new.next ≡ next) }
         ensures ended { OnOk result (self.new.ended ≡ self.old.ended) }
     {
         let item = Vec::from_slice(alloc, content)?;
         self.places.push(self.next)?;
         self.items.push(item)?;
-        self.next += 8 + content.len() as u64;
+        self.next = next;
         Ok(())
     }
 
@@ -81,7 +81,8 @@ impl Chunk {
             let Some((content, after)) = first_item(rest) else {
                 break;
             };
-            self.push(alloc, content)?;
+            let next = self.next + (rest.len() - after.len()) as u64;
+            self.push(alloc, content, next)?;
             rest = after;
         }
         Ok(bytes.len() - rest.len())
@@ -91,7 +92,7 @@ impl Chunk {
     pub(crate) fn end(mut self, name: FileName, bytes: &[u8], taken: usize) -> Result<Chunk, LogErr>
         requires { taken ≤ length bytes.now }
         ensures ok { IfOk result (λ chunk. chunk ≡ record self { ended = true }) }
-        ensures whole { OnErr result (¬ ((drop taken bytes.now ≡ []) ⊎ IsIncomplete (drop taken bytes.now))) }
+        ensures whole { OnErr result (¬ IsEnd false (drop taken bytes.now)) }
         ensures bad { IfErr result (λ e. e ≡ LogErr.Bad name self.next) }
     {
         let rest = &bytes[taken..];

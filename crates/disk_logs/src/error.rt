@@ -1,10 +1,11 @@
 //! Why a call on a log did not do its work.
 
-ghost use Rattle.std.specs.Prelude.{◌≡◌};
+ghost use Rattle.std.specs.Prelude.{◌≡◌, ◌↔◌, ℕ, IsTrue, IsErrOf, is_ok};
 ghost use Rattle.disk_logs.specs.Errors.{told as with_name};
 ghost use Rattle.disk_logs.specs.declared.error.LogErr.TheVariants.{Memory};
 
 use file_trait::{DiskErr, FileName};
+use log_items::ItemErr;
 use std::alloc::AllocError;
 use std::fmt;
 
@@ -15,7 +16,7 @@ pub enum LogErr {
     File(FileName),
     /// The file is no log. The place is that of the first byte of what is wrong.
     Bad(FileName, u64),
-    /// The bytes are more than a log can hold. No call answers it yet.
+    /// An item has more than 2^28 bytes.
     TooLong,
     /// Memory was wanting.
     Memory,
@@ -48,5 +49,20 @@ pub(crate) fn told<T>(name: FileName, answer: Result<T, DiskErr>) -> Result<T, L
         Ok(value) => Ok(value),
         Err(DiskErr::Failed) => Err(LogErr::File(name)),
         Err(DiskErr::Memory) => Err(LogErr::Memory),
+    }
+}
+
+/// The answer of a call that writes a head or an item, with a log's errors.
+pub(crate) fn wrote(answer: Result<(), ItemErr>) -> Result<(), LogErr>
+    requires { (at : ℕ) → IsErrOf answer (ItemErr.Bad at) → ⊥ }
+    ensures ok { IsTrue (is_ok result) ↔ IsTrue (is_ok answer) }
+    ensures long { IsErrOf result LogErr.TooLong ↔ IsErrOf answer ItemErr.TooLong }
+    ensures memory { IsErrOf result LogErr.Memory ↔ IsErrOf answer ItemErr.Memory }
+{
+    match answer {
+        Ok(()) => Ok(()),
+        Err(ItemErr::TooLong) => Err(LogErr::TooLong),
+        Err(ItemErr::Memory) => Err(LogErr::Memory),
+        Err(ItemErr::Bad(_)) => unreachable!(),
     }
 }

@@ -2,19 +2,17 @@
 #![tactic(auto)]
 
 mod chunks;
+mod closed;
 mod error;
-mod item;
 mod items;
 mod laws;
 mod log;
 mod reading;
-mod scan;
 
 pub use chunks::Chunk;
 pub use error::LogErr;
-pub use item::put_item;
 pub use items::Items;
-pub use laws::{item_law, place_law};
+pub use laws::place_law;
 pub use log::Log;
 pub use reading::chunk;
 

@@ -1,22 +1,21 @@
 //! A log over a disk.
 
-ghost use Rattle.std.specs.Prelude.{◌≡◌, ◌≢◌, ◌⊎◌, ℕ, ◌≤◌, ◌&&◌, Bool, true, false, List, [], ◌∷◌, ◌++◌, ◌+◌, length, take, Some, IsTrue, IfOk, IfSome, OnOk, OnErr, IsErrOf};
+ghost use Rattle.std.specs.Prelude.{◌≡◌, ◌≢◌, ◌⊎◌, ℕ, ◌≤◌, ◌&&◌, Bool, true, false, List, [], ◌∷◌, ◌++◌, ◌+◌, ◌<◌, ◌^◌, ◌↔◌, length, take, Some, IsTrue, IfOk, IfErr, IfSome, OnOk, OnErr, IsErrOf};
 ghost use Rattle.file_trait.specs.DiskModel.{reads};
 ghost use Rattle.file_trait.specs.Calls.{IsThere, IsAbsent};
 ghost use Rattle.file_trait.specs.Name.{IsName};
 ghost use Rattle.disk_logs.specs.Errors.{OnlyFile, OnlyFileOrMemory, LogCause};
-ghost use Rattle.disk_logs.specs.Items.{wire, log_bytes, IsSmall};
 ghost use Rattle.disk_logs.specs.Logs.{draft_name as name_of_draft, file_of, with_mark, opened, IsLog, AreItems, HasAppended, HasMarked, mark_bytes as bytes_of_mark, IsKept, IsMoved, HasPart, Finds};
+ghost use Rattle.log_items.specs.Items.{wire, log_bytes};
 
-use crate::error::told;
+use crate::LogErr;
+use crate::closed::bad_place;
+use crate::error::{told, wrote};
 use crate::reading::read_file;
-use crate::scan::bad_place;
-use crate::{LogErr, put_item};
 use file_trait::{Disk, FileName};
-use std::alloc::{AllocError, Global};
+use log_items::{put_head, put_item};
+use std::alloc::Global;
 use std::marker::Model;
-
-const CLOSED_HEAD: [u8; 8] = [1, 2, 3, 4, 99, 88, 77, 11];
 
 /// A log. Its file is a draft until it is published, and then has the log's name.
 #[derive(Drop)]
@@ -39,7 +38,8 @@ impl Model for Log {
 }
 
 impl Log {
-    /// Makes a draft of a log with a first item, and its mark says closed. An older draft of the name is removed.
+    /// Makes a draft of a log with a first item, and its mark says closed. An older draft of the name is removed. It is `TooLong`
+    /// where the item has more than 2^28 bytes.
     pub fn draft<D: Disk>(
         alloc: Global,
         disk: &mut D,
@@ -48,12 +48,12 @@ impl Log {
     ) -> Result<Log, LogErr>
         requires short { length name ≤ 77 }
         requires valid { IsName name }
-        requires small { IsSmall head_item.now }
         ensures log { IfOk result (λ log. log ≡ record { name = name; draft = true; closed = true }) }
         ensures made { IsTrue D.tells → OnOk result (reads (D.past disk.new) (name_of_draft name) ≡ Some (log_bytes true (head_item.now ∷ []))) }
         ensures left { IsTrue D.tells → OnErr result (HasPart (log_bytes true (head_item.now ∷ [])) (reads (D.past disk.old) (name_of_draft name)) (reads (D.past disk.new) (name_of_draft name))) }
         ensures others { IsTrue D.tells → (other : List ℕ) → other ≢ name_of_draft name → reads (D.past disk.new) other ≡ reads (D.past disk.old) other }
-        ensures only { OnlyFileOrMemory result }
+        ensures long { IsErrOf result LogErr.TooLong ↔ (2 ^ 28 < length head_item.now) }
+        ensures only { length head_item.now ≤ 2 ^ 28 → OnlyFileOrMemory result }
         ensures cause { LogCause (D.faults disk.old) (D.faults disk.new) (D.blamed disk.new) result }
     {
         let file = draft_name(name);
@@ -92,7 +92,7 @@ impl Log {
         Ok(())
     }
 
-    /// Puts whole small items, one behind the other as `put_item` makes them, behind those of the file. A log that is
+    /// Puts whole items, one behind the other as `put_item` makes them, behind those of the file. A log that is
     /// published and says closed is marked open first.
     pub fn append<D: Disk>(&mut self, disk: &mut D, items: &[u8]) -> Result<(), LogErr>
         requires log { IsTrue D.tells → IsLog (D.past disk.old) self.old }
@@ -153,7 +153,7 @@ impl Log {
         let Some(bytes) = read_file(alloc, disk, name)? else {
             return Ok(None);
         };
-        if let Some(at) = bad_place(&bytes) {
+        if let Some(at) = bad_place(alloc, &bytes)? {
             return Err(LogErr::Bad(name, at as u64));
         }
         Ok(Some(Log {
@@ -233,12 +233,16 @@ fn named(text: &[u8]) -> FileName
 }
 
 // The bytes of a closed file with this item.
-fn draft_bytes(alloc: Global, head_item: &[u8]) -> Result<Vec<u8>, AllocError>
-    requires { IsSmall head_item.now }
-    ensures { IfOk result (λ bytes. bytes.items ≡ log_bytes true (head_item.now ∷ [])) }
+fn draft_bytes(alloc: Global, head_item: &[u8]) -> Result<Vec<u8>, LogErr>
+    ensures bytes { IfOk result (λ bytes. bytes.items ≡ log_bytes true (head_item.now ∷ [])) }
+    ensures long { IsErrOf result LogErr.TooLong ↔ (2 ^ 28 < length head_item.now) }
+    ensures only { length head_item.now ≤ 2 ^ 28 → IfErr result (λ error. error ≡ LogErr.Memory) }
 {
-    let mut bytes = Vec::from_slice(alloc, &CLOSED_HEAD)?;
-    put_item(head_item, &mut bytes)?;
+    let mut bytes = Vec::new(alloc);
+    let head = put_head(true, &mut bytes);
+    // That the item is too long is told first.
+    wrote(put_item(head_item, &mut bytes))?;
+    wrote(head)?;
     Ok(bytes)
 }
 

@@ -5,7 +5,7 @@ ghost use Rattle.file_trait.specs.DiskModel.{reads};
 ghost use Rattle.file_trait.specs.Calls.{Has};
 ghost use Rattle.disk_logs.specs.Chunks.{IsChunk, IsPlace, HasPlace};
 ghost use Rattle.disk_logs.specs.Errors.{OnlyFileOrMemory, LogCause};
-ghost use Rattle.disk_logs.specs.Scan.{StartsWith};
+ghost use Rattle.log_items.specs.Scan.{StartsWith};
 
 use crate::error::told;
 use crate::{Chunk, LogErr};

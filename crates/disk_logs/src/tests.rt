@@ -1,11 +1,12 @@
 ghost use Rattle.std.specs.Prelude.{◌≤◌, length, IfOk, OnOk};
 ghost use Rattle.file_trait.specs.MemDisk.{disk_past};
 ghost use Rattle.file_trait.specs.Name.{IsName};
-ghost use Rattle.disk_logs.specs.Items.{IsSmall};
-ghost use Rattle.disk_logs.specs.Logs.{IsLog};
+ghost use Rattle.log_items.specs.Items.{IsContent};
+ghost use Rattle.disk_logs.specs.Logs.{AreItems, IsLog};
 
-use crate::{Chunk, Log, LogErr, chunk, put_item};
+use crate::{Chunk, Log, LogErr, chunk};
 use file_trait::{FileName, MemDisk};
+use log_items::{ItemErr, put_item};
 use std::alloc::Global;
 use std::test::Fail;
 
@@ -21,14 +22,21 @@ fn published(alloc: Global, disk: &mut MemDisk, name: FileName) -> Result<Log, L
     Ok(log)
 }
 
-fn put(alloc: Global, disk: &mut MemDisk, log: &mut Log, content: &[u8]) -> Result<(), LogErr>
-    requires log { IsLog (disk_past disk.old) log.old }
-    requires small { IsSmall content.now }
-    ensures { OnOk result (IsLog (disk_past disk.new) log.new) }
+fn item(alloc: Global, content: &[u8]) -> Result<Vec<u8>, ItemErr>
+    requires { IsContent content.now }
+    ensures { IfOk result (λ item. AreItems item.items) }
 {
     let mut item = Vec::new(alloc);
     put_item(content, &mut item)?;
-    log.append(disk, &item)?;
+    Ok(item)
+}
+
+fn put(disk: &mut MemDisk, log: &mut Log, item: &[u8]) -> Result<(), LogErr>
+    requires log { IsLog (disk_past disk.old) log.old }
+    requires items { AreItems item.now }
+    ensures { OnOk result (IsLog (disk_past disk.new) log.new) }
+{
+    log.append(disk, item)?;
     log.sync(disk)
 }
 
@@ -49,8 +57,9 @@ fn a_log_is_written_and_read_back(rt: HostRuntime) -> Result<(), Fail> {
         49,
     ];
     assert_eq!(rt; disk.contents(name), Some(drafted.as_slice()));
-    put(rt.alloc(), &mut disk, &mut log, b"one")?;
-    put(rt.alloc(), &mut disk, &mut log, b"one")?;
+    let one = item(rt.alloc(), b"one")?;
+    put(&mut disk, &mut log, &one)?;
+    put(&mut disk, &mut log, &one)?;
     log.close(&mut disk)?;
     let closed = [
         1, 2, 3, 4, 99, 88, 77, 11, 0, 0, 0, 9, 12, 44, 55, 66, 131, 104, 1, 119, 4, 108, 111, 103,
@@ -63,6 +72,22 @@ fn a_log_is_written_and_read_back(rt: HostRuntime) -> Result<(), Fail> {
     assert_eq!(rt; read.items.get(1), Some(b"one".as_slice()));
     assert_eq!(rt; read.places.as_slice(), [8, 25].as_slice());
     assert_eq!(rt; (read.next, read.ended), (36, false));
+    Ok(())
+}
+
+#[test]
+fn a_large_item_comes_in_several_pieces(rt: HostRuntime) -> Result<(), Fail> {
+    let name = FileName::new(b"LATEST.LOG").ok_or("name")?;
+    let mut disk = MemDisk::new(rt.alloc());
+    let mut log = published(rt.alloc(), &mut disk, name)?;
+    let content = vec![in rt.alloc(); 7; 70000]?;
+    let large = item(rt.alloc(), &content)?;
+    put(&mut disk, &mut log, &large)?;
+    log.close(&mut disk)?;
+    let read = first_two(rt.alloc(), &mut disk, name)?;
+    assert_eq!(rt; read.items.get(1), Some(content.as_slice()));
+    assert_eq!(rt; read.places.as_slice(), [8, 25].as_slice());
+    assert_eq!(rt; (read.next, read.ended), (70049, false));
     Ok(())
 }
 

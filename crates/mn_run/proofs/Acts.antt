@@ -1,22 +1,26 @@
 -- The acts of the node are steps of the machine.
-use Rattle.std.proofs.Common.{◌≡◌, ◌⊎◌, ℕ, zero, suc, ◌<◌, ◌≤◌, Bool, true, false, ◌&&◌, if◌then◌else◌, List, [], ◌∷◌, ◌++◌, length, take, Some, Err, refl, sym, ap, ◌∙◌, subst, inl, inr, append-nil, append_assoc, arith}
-use Rattle.std.proofs.lemmas.List.{map-append, take_all}
+use Rattle.std.proofs.Common.{◌≡◌, ◌⊎◌, ℕ, zero, suc, ◌<◌, ◌≤◌, Bool, true, false, ◌&&◌, if◌then◌else◌, List, [], ◌∷◌, ◌++◌, length, take, None, Some, Err, refl, sym, ap, ◌∙◌, subst, inl, inr, append-nil, append_assoc, arith}
+use Rattle.std.proofs.lemmas.List.{take_all}
 use Rattle.std.proofs.lemmas.List.Elements.{All-append, All-cons, All-nil}
 use Rattle.term_core.specs.Tree.{Tree}
 use Rattle.file_trait.specs.DiskModel.{Past, reads}
 use Rattle.file_trait.specs.Counts.{Rose}
-use Rattle.disk_logs.specs.Items.{head_bytes, log_bytes, wire, item_bytes, IsSmall, AreSmall}
+use Rattle.log_items.specs.Items.{head_bytes, log_bytes, wire, item_bytes, IsContent, AreContents}
 use Rattle.disk_logs.specs.Logs.{Handle, file_of, opened, IsLog, AreItems, HasAppended, HasMarked}
 use Rattle.disk_logs.specs.Errors.{OnlyFileOrMemory, LogCause}
 use Rattle.disk_logs.specs.declared.error.LogErr.{LogErr}
 use Rattle.disk_logs.specs.declared.error.LogErr.TheVariants.{File, Bad, TooLong, Memory}
-use Rattle.mn_run.specs.Commits.{commit_text, commits_of, head_text}
+use Rattle.mn_run.specs.Commits.{IsCommit, AreItemsOf, commit_text, head_text}
 use Rattle.mn_run.specs.Files.{latest, KeepsUpTo, Shows}
-use Rattle.mn_run.specs.Machine.{Machine, Change, goes_on}
+use Rattle.mn_run.specs.Machine.{Machine, Change, Step, goes_on}
 use Rattle.mn_run.specs.Orders.{put, get, stop, done, found, stopped, fault, no_memory, bad_line, started, Answer, Order}
 use Rattle.mn_run.specs.Steps.{Steps, Stops, failed_answer, AnswersRead}
+use Rattle.mn_run.specs.Runs.{Stopped}
 use Rattle.mn_run.specs.Tables.{records_of, has_key, put_record}
+use Rattle.mn_run.specs.declared.outcome.Status.{Status}
+use Rattle.mn_run.specs.declared.outcome.Status.TheVariants as status
 use Rattle.mn_run.proofs.Kept.{keeps_whole, shown_held}
+use Rattle.mn_run.proofs.Loading.{items_one_more}
 use Rattle.mn_run.proofs.Rows.{records_put}
 
 eq_or_lt : (m n : ℕ) → m ≤ n → (m ≡ n) ⊎ (m < n)
@@ -27,11 +31,8 @@ eq_or_lt (suc m) (suc n) le = elim (eq_or_lt m n (omega arith)) [ inl same ↦ i
 
 -- ---- the log's items
 
-pub commits_more : (base entries : List Tree) (row : Tree) → commits_of (base ++ (entries ++ row ∷ [])) ≡ commits_of (base ++ entries) ++ commit_text row ∷ []
-commits_more base entries row = ap commits_of (sym (append_assoc base entries (row ∷ []))) ∙ ap (λ xs. head_text ∷ xs) (map-append commit_text (base ++ entries) (row ∷ []))
-
-all_more : (all : List (List ℕ)) (item : List ℕ) → AreSmall all → IsSmall item → AreSmall (all ++ item ∷ [])
-all_more all item some one = All-append IsSmall all (item ∷ []) some (All-cons IsSmall item [] one (All-nil IsSmall))
+all_more : (all : List (List ℕ)) (item : List ℕ) → AreContents all → IsContent item → AreContents (all ++ item ∷ [])
+all_more all item some one = All-append IsContent all (item ∷ []) some (All-cons IsContent item [] one (All-nil IsContent))
 
 wire_more : (items : List (List ℕ)) (item : List ℕ) → wire (items ++ item ∷ []) ≡ wire items ++ item_bytes item
 wire_more [] item = append-nil (item_bytes item)
@@ -44,36 +45,40 @@ log_more closed items item = ap (λ bytes. head_bytes closed ++ bytes) (wire_mor
 pub is_item : (bytes content : List ℕ) → bytes ≡ item_bytes content → bytes ≡ wire (content ∷ [])
 is_item bytes content is = is ∙ sym (append-nil (item_bytes content))
 
-pub are_items : (bytes content : List ℕ) → bytes ≡ item_bytes content → IsSmall content → AreItems bytes
-are_items bytes content is small = (content ∷ [], All-cons IsSmall content [] small (All-nil IsSmall), is_item bytes content is)
+pub are_items : (bytes content : List ℕ) → bytes ≡ item_bytes content → IsContent content → AreItems bytes
+are_items bytes content is small = (content ∷ [], All-cons IsContent content [] small (All-nil IsContent), is_item bytes content is)
 
 module _ (rows : List Tree) (log : Handle) (past : Past) (machine : Machine) (h : Shows rows log past machine) where
   pub file_is : file_of log ≡ latest
   file_is = ap (λ b. if b then log.name ++ 84 ∷ 77 ∷ 80 ∷ [] else log.name) h.published ∙ h.name
 
   -- the log reads as the machine's commits
-  pub log_reads : reads past (file_of log) ≡ Some (log_bytes log.closed (commits_of (machine.base ++ machine.entries)))
+  pub log_reads : reads past (file_of log) ≡ Some (log_bytes log.closed h.items)
   log_reads = ap (reads past) file_is ∙ h.file
 
   -- ---- a write
 
-  module _ (row : Tree) (small : IsSmall (commit_text row)) where
+  module _ (row : Tree) (small : IsContent (commit_text row)) (text : IsCommit (commit_text row) row) where
     abbrev after_put : Machine
     after_put = record machine { entries = machine.entries ++ row ∷ []; table = put_record row machine.table }
 
     abbrev in_doubt : Machine
     in_doubt = record machine { doubtful = Some row; up = false }
 
-    put_items : commits_of (machine.base ++ (machine.entries ++ row ∷ [])) ≡ commits_of (machine.base ++ machine.entries) ++ commit_text row ∷ []
-    put_items = commits_more machine.base machine.entries row
+    -- the items with one more
+    abbrev put_items : List (List ℕ)
+    put_items = h.items ++ commit_text row ∷ []
 
-    put_small : AreSmall (commits_of (machine.base ++ (machine.entries ++ row ∷ [])))
-    put_small = subst AreSmall (sym put_items) (all_more (commits_of (machine.base ++ machine.entries)) (commit_text row) h.small small)
+    put_commits : AreItemsOf (machine.base ++ (machine.entries ++ row ∷ [])) put_items
+    put_commits = subst (λ rows. AreItemsOf rows put_items) (append_assoc machine.base machine.entries (row ∷ [])) (items_one_more (machine.base ++ machine.entries) h.items row (commit_text row) h.commits text)
+
+    put_small : AreContents put_items
+    put_small = all_more h.items (commit_text row) h.small small
 
     -- it was appended, and the table has it
     pub put_done : (new_rows : List Tree) (new_log : Handle) (new : Past) → new_log ≡ opened log
         → ((key : Tree) → records_of key new_rows ≡ (if has_key key row then row ∷ [] else records_of key rows))
-        → reads new (file_of log) ≡ Some (log_bytes new_log.closed (commits_of (machine.base ++ machine.entries) ++ commit_text row ∷ [])) → Steps machine (put row) done new_rows new_log new
+        → reads new (file_of log) ≡ Some (log_bytes new_log.closed put_items) → Steps machine (put row) done new_rows new_log new
     put_done new_rows new_log new is_open put_rows is =
         let shown : Shows new_rows new_log new after_put = record {
           up = h.up;
@@ -81,8 +86,10 @@ module _ (rows : List Tree) (log : Handle) (past : Past) (machine : Machine) (h 
           table = λ key. put_rows key ∙ ap (λ xs. if has_key key row then row ∷ [] else xs) (h.table key) ∙ sym (records_put key row machine.table);
           name = ap (λ (l : Handle). l.name) is_open ∙ h.name;
           published = ap (λ (l : Handle). l.draft) is_open ∙ h.published;
+          items = put_items;
+          commits = put_commits;
           small = put_small;
-          file = ap (reads new) (sym file_is) ∙ is ∙ ap (λ items. Some (log_bytes new_log.closed items)) (sym put_items);
+          file = ap (reads new) (sym file_is) ∙ is;
         } in
         record {
           new = after_put;
@@ -92,7 +99,7 @@ module _ (rows : List Tree) (log : Handle) (past : Past) (machine : Machine) (h 
         }
 
     -- memory was wanting: all is as before, but for the log's mark perhaps
-    pub put_wanted : (new_log : Handle) (new : Past) → (new_log ≡ log) ⊎ (new_log ≡ opened log) → reads new (file_of log) ≡ Some (log_bytes new_log.closed (commits_of (machine.base ++ machine.entries)))
+    pub put_wanted : (new_log : Handle) (new : Past) → (new_log ≡ log) ⊎ (new_log ≡ opened log) → reads new (file_of log) ≡ Some (log_bytes new_log.closed h.items)
         → Steps machine (put row) no_memory rows new_log new
     put_wanted new_log new was is =
         let shown : Shows rows new_log new machine = record {
@@ -101,6 +108,8 @@ module _ (rows : List Tree) (log : Handle) (past : Past) (machine : Machine) (h 
           table = h.table;
           name = elim was [ inl same ↦ ap (λ (l : Handle). l.name) same ∙ h.name | inr is_open ↦ ap (λ (l : Handle). l.name) is_open ∙ h.name ];
           published = elim was [ inl same ↦ ap (λ (l : Handle). l.draft) same ∙ h.published | inr is_open ↦ ap (λ (l : Handle). l.draft) is_open ∙ h.published ];
+          items = h.items;
+          commits = h.commits;
           small = h.small;
           file = ap (reads new) (sym file_is) ∙ is;
         } in
@@ -120,46 +129,49 @@ module _ (rows : List Tree) (log : Handle) (past : Past) (machine : Machine) (h 
       held = held;
     }
 
-    abbrev old_items : List (List ℕ)
-    old_items = commits_of (machine.base ++ machine.entries)
-
     -- the front of a new item behind the old ones
-    part_kept : (mark : Bool) (k : ℕ) (new : Past) → k ≤ length (item_bytes (commit_text row)) → (0 < k → mark ≡ false) → reads new latest ≡ Some (log_bytes mark old_items ++ take k (item_bytes (commit_text row)))
+    part_kept : (mark : Bool) (k : ℕ) (new : Past) → k ≤ length (item_bytes (commit_text row)) → (0 < k → mark ≡ false) → reads new latest ≡ Some (log_bytes mark h.items ++ take k (item_bytes (commit_text row)))
         → KeepsUpTo (reads new) (machine.base ++ machine.entries) (Some row)
     part_kept mark zero new le open_if is =
-        inl (keeps_whole mark (reads new) (machine.base ++ machine.entries) h.small (is ∙ ap (λ bytes. Some bytes) (append-nil (log_bytes mark old_items))))
+        inl (keeps_whole mark (reads new) (machine.base ++ machine.entries) h.items h.commits h.small (is ∙ ap (λ bytes. Some bytes) (append-nil (log_bytes mark h.items))))
     part_kept mark (suc k) new le open_if is = by (eq_or_lt (suc k) (length (item_bytes (commit_text row))) le)
       where
-        whole_items : commits_of ((machine.base ++ machine.entries) ++ row ∷ []) ≡ commits_of (machine.base ++ machine.entries) ++ commit_text row ∷ []
-        whole_items = ap (λ xs. head_text ∷ xs) (map-append commit_text (machine.base ++ machine.entries) (row ∷ []))
-
-        open_reads : reads new latest ≡ Some (log_bytes false (commits_of (machine.base ++ machine.entries)) ++ take (suc k) (item_bytes (commit_text row)))
-        open_reads = is ∙ ap (λ m. Some (log_bytes m (commits_of (machine.base ++ machine.entries)) ++ take (suc k) (item_bytes (commit_text row)))) (open_if (omega arith))
+        open_reads : reads new latest ≡ Some (log_bytes false h.items ++ take (suc k) (item_bytes (commit_text row)))
+        open_reads = is ∙ ap (λ m. Some (log_bytes m h.items ++ take (suc k) (item_bytes (commit_text row)))) (open_if (omega arith))
 
         by : (suc k ≡ length (item_bytes (commit_text row))) ⊎ (suc k < length (item_bytes (commit_text row))) → KeepsUpTo (reads new) (machine.base ++ machine.entries) (Some row)
-        by (inl all) = inr (keeps_whole false (reads new) ((machine.base ++ machine.entries) ++ row ∷ []) (subst AreSmall (sym (whole_items)) (all_more (commits_of (machine.base ++ machine.entries)) (commit_text row) h.small small))
-            (open_reads ∙ ap (λ bytes. Some (log_bytes false (commits_of (machine.base ++ machine.entries)) ++ bytes)) (take_all (suc k) (item_bytes (commit_text row)) (omega (arith, all)))
-            ∙ ap (λ bytes. Some bytes) (sym (log_more false (commits_of (machine.base ++ machine.entries)) (commit_text row)))
-            ∙ ap (λ items. Some (log_bytes false items)) (sym whole_items)))
+        by (inl all) = inr (keeps_whole false (reads new) ((machine.base ++ machine.entries) ++ row ∷ []) put_items (items_one_more (machine.base ++ machine.entries) h.items row (commit_text row) h.commits text) put_small
+            (open_reads ∙ ap (λ bytes. Some (log_bytes false h.items ++ bytes)) (take_all (suc k) (item_bytes (commit_text row)) (omega (arith, all)))
+            ∙ ap (λ bytes. Some bytes) (sym (log_more false h.items (commit_text row)))))
         by (inr short) = inl (inr (
-          log_bytes false (commits_of (machine.base ++ machine.entries)) ++ take (suc k) (item_bytes (commit_text row)),
+          log_bytes false h.items ++ take (suc k) (item_bytes (commit_text row)),
+          h.items,
           open_reads,
-          (h.small, inr (take (suc k) (item_bytes (commit_text row)), inr (record { content = commit_text row; size = suc k; small = small; some = omega arith; cut = short; is = refl }), refl)),
+          h.commits,
+          (
+            false,
+            record {
+              rest = take (suc k) (item_bytes (commit_text row));
+              fit = h.small;
+              end = inr (record { content = commit_text row; size = suc k; fits = small; some = omega arith; cut = short; is = refl });
+              is = refl;
+            },
+          ),
         ))
 
     pub put_failed : (error : LogErr) (new_log : Handle) (new : Past) → (new_log ≡ log) ⊎ (new_log ≡ opened log) → OnlyFileOrMemory {T = Unit {0}} (Err error)
-        → HasAppended {T = Unit {0}} (Err error) new_log.closed (opened log).closed old_items (commit_text row ∷ []) (reads new (file_of log)) → Steps machine (put row) (failed_answer error) rows new_log new
+        → HasAppended {T = Unit {0}} (Err error) new_log.closed (opened log).closed h.items (commit_text row ∷ []) (reads new (file_of log)) → Steps machine (put row) (failed_answer error) rows new_log new
     put_failed Memory new_log new was only is = put_wanted new_log new was is
     put_failed (File name) new_log new was only (mark, k, le, open_if, is) =
         let one : wire (commit_text row ∷ []) ≡ item_bytes (commit_text row) = append-nil (item_bytes (commit_text row)) in
         let opened_now : (opened log).closed ≡ false = ap (λ b. b && log.closed) h.published in
         fault_step new_log new (part_kept mark k new (omega (arith, le, ap length one)) (λ some. open_if some ∙ opened_now)
-        (ap (reads new) (sym file_is) ∙ is ∙ ap (λ bytes. Some (log_bytes mark old_items ++ take k bytes)) one))
+        (ap (reads new) (sym file_is) ∙ is ∙ ap (λ bytes. Some (log_bytes mark h.items ++ take k bytes)) one))
     put_failed (Bad name at) new_log new was only is = absurd only
     put_failed TooLong new_log new was only is = absurd only
 
     pub put_failed_at : (error : LogErr) (answer : Answer) (new_rows : List Tree) (new_log : Handle) (new : Past) → answer ≡ failed_answer error → new_rows ≡ rows → (new_log ≡ log) ⊎ (new_log ≡ opened log)
-        → OnlyFileOrMemory {T = Unit {0}} (Err error) → HasAppended {T = Unit {0}} (Err error) new_log.closed (opened log).closed old_items (commit_text row ∷ []) (reads new (file_of log))
+        → OnlyFileOrMemory {T = Unit {0}} (Err error) → HasAppended {T = Unit {0}} (Err error) new_log.closed (opened log).closed h.items (commit_text row ∷ []) (reads new (file_of log))
         → Steps machine (put row) answer new_rows new_log new
     put_failed_at error answer new_rows new_log new answer_is same was only is =
         subst (λ a. Steps machine (put row) a new_rows new_log new) (sym answer_is)
@@ -189,19 +201,19 @@ module _ (rows : List Tree) (log : Handle) (past : Past) (machine : Machine) (h 
   abbrev after_stop : Machine
   after_stop = record machine { up = false }
 
-  whole_kept : (mark : Bool) (new : Past) → reads new (file_of log) ≡ Some (log_bytes mark (commits_of (machine.base ++ machine.entries))) → KeepsUpTo (reads new) (machine.base ++ machine.entries) machine.doubtful
+  whole_kept : (mark : Bool) (new : Past) → reads new (file_of log) ≡ Some (log_bytes mark h.items) → KeepsUpTo (reads new) (machine.base ++ machine.entries) machine.doubtful
   whole_kept mark new is =
-      subst (KeepsUpTo (reads new) (machine.base ++ machine.entries)) (sym h.sure) (keeps_whole mark (reads new) (machine.base ++ machine.entries) h.small (ap (reads new) (sym file_is) ∙ is))
+      subst (KeepsUpTo (reads new) (machine.base ++ machine.entries)) (sym h.sure) (keeps_whole mark (reads new) (machine.base ++ machine.entries) h.items h.commits h.small (ap (reads new) (sym file_is) ∙ is))
 
-  pub stop_done : (new : Past) → reads new (file_of log) ≡ Some (log_bytes true (commits_of (machine.base ++ machine.entries))) → Stops machine stop stopped new
+  pub stop_done : (new : Past) → reads new (file_of log) ≡ Some (log_bytes true h.items) → Stops machine stop stopped new
   stop_done new is = record {
     new = after_stop;
     step = record { sure = h.sure; change = (h.up, refl) };
     held = whole_kept true new is;
-    closed = λ e. ap (reads new) (sym file_is) ∙ is;
+    closed = λ e. (h.items, h.commits, h.small, ap (reads new) (sym file_is) ∙ is);
   }
 
-  pub stop_failed : (error : LogErr) (new : Past) → OnlyFileOrMemory {T = Unit {0}} (Err error) → HasMarked {T = Unit {0}} (Err error) log.closed true (commits_of (machine.base ++ machine.entries)) (reads new (file_of log))
+  pub stop_failed : (error : LogErr) (new : Past) → OnlyFileOrMemory {T = Unit {0}} (Err error) → HasMarked {T = Unit {0}} (Err error) log.closed true h.items (reads new (file_of log))
       → Stops machine stop (failed_answer error) new
   stop_failed Memory new only is = record {
     new = machine;
@@ -219,8 +231,22 @@ module _ (rows : List Tree) (log : Handle) (past : Past) (machine : Machine) (h 
   stop_failed TooLong new only is = absurd only
 
   pub stop_failed_at : (error : LogErr) (answer : Answer) (new : Past) → answer ≡ failed_answer error → OnlyFileOrMemory {T = Unit {0}} (Err error)
-      → HasMarked {T = Unit {0}} (Err error) log.closed true (commits_of (machine.base ++ machine.entries)) (reads new (file_of log)) → Stops machine stop answer new
+      → HasMarked {T = Unit {0}} (Err error) log.closed true h.items (reads new (file_of log)) → Stops machine stop answer new
   stop_failed_at error answer new answer_is only is = subst (λ a. Stops machine stop a new) (sym answer_is) (stop_failed error new only is)
+
+-- ---- how a stop ends a run
+
+stop_sure : (old new : Machine) (answer : Answer) → answer ≡ stopped → Step old stop answer new → new.doubtful ≡ None
+stop_sure old new answer is step = let stops : Step old stop stopped new = subst (λ a. Step old stop a new) is step in ap (λ (m : Machine). m.doubtful) stops.change.1 ∙ stops.sure
+
+pub run_stops : (machine : Machine) (answer : Answer) (end : Status) (past : Past) → Stops machine stop answer past → (end ≡ status.Done → answer ≡ stopped) → Stopped machine end past
+run_stops machine answer end past s only = record {
+  answer = answer;
+  new = s.new;
+  step = s.step;
+  held = s.held;
+  well = λ well. (s.closed (only well), stop_sure machine s.new answer (only well) s.step);
+}
 
 -- ---- a fault has its cause
 

@@ -1,21 +1,20 @@
 -- A commit says which record it writes.
 use Rattle.std.proofs.Common.{◌≡◌, ℕ, zero, suc, ◌≤◌, List, [], ◌∷◌, Option, Some, None, Result, Ok, Err, refl, sym, ap, subst, ◌∙◌, lit≤, Bor}
-use Rattle.std.specs.Prelude.{slice_get, MatchOption, IfOk}
+use Rattle.std.specs.Prelude.{slice_get, MatchOption, IfOk, IsTrue, Bool, ◌↔◌}
 use Rattle.std.specs.Option.{option_map, option_copied}
-use Rattle.term_core.specs.Tree.{Tree, int, atom, tuple, list, bin, inner, depth}
+use Rattle.term_core.specs.Tree.{Tree, int, atom, tuple, list, bin, inner}
 use Rattle.term_core.specs.View.{tree_step, tree_of, forest_of}
 use Rattle.term_core.specs.declared.term.Term.{Term, Tuple, List as ListTerm}
 use Rattle.term_core.specs.declared.term.Term.TheFolds.{fold-roll-Term}
 use Rattle.term_core.specs.declared.term.Term.TheOpen.{Term-F}
 use Rattle.term_core.specs.declared.term.Term.TheViews.{rolls-Tuple, rolls-List}
-use Rattle.term_wire.specs.Spelling.{canon, IsPlain}
+use Rattle.term_wire.specs.Spelling.{IsText}
 use Rattle.term_wire.specs.Decoding.{Refuses}
 use Rattle.term_wire.specs.declared.error.WireErr.{WireErr}
 use Rattle.term_wire.specs.declared.error.WireErr.TheVariants.{Bad, Outside, WideInt, TooDeep, Memory}
 use Rattle.term_wire.proofs.Again.{one_tree}
 use Rattle.mn_run.specs.Commands.{row}
-use Rattle.mn_run.specs.Commits.{IsSimple, IsRow, commit_of, commit_text, IsNoCommit, WritesNone, tree_at, part}
-use Rattle.mn_run.proofs.CommitTexts.{row_plain}
+use Rattle.mn_run.specs.Commits.{IsSimple, IsRow, commit_of, IsCommit, IsNoText, IsNoCommit, WritesNone, log_head, IsHead, tree_at, part}
 
 -- ---- elements
 
@@ -53,23 +52,9 @@ commit_of_injective a b same = some_is {A = Tree} a b (ap row_in same)
     row_in : Tree → Option Tree
     row_in commit = then (then (part 3 commit) 0) 2
 
-pub commit_text_injective : (a b : Tree) → IsRow a → IsRow b → commit_text a ≡ commit_text b → a ≡ b
-commit_text_injective a b is_a is_b same = commit_of_injective a b (one_tree (commit_of a) (commit_of b) (row_plain a is_a) (row_plain b is_b) same)
-
--- ---- depth
-
-simple_depth : (field : Tree) → IsSimple field → depth field ≡ 1
-simple_depth (int n) h = refl
-simple_depth (atom text) h = refl
-simple_depth (tuple ts) h = absurd h
-simple_depth (list ts) h = absurd h
-simple_depth (bin bytes) h = absurd h
-
-one_shallow : (key value : Tree) → depth key ≡ 1 → depth value ≡ 1 → depth (commit_of (row key value)) ≤ 128
-one_shallow key value k v = rw (k, v) (lit≤ tt)
-
-pub row_shallow : (item : Tree) → IsRow item → depth (commit_of item) ≤ 128
-row_shallow item h = subst (λ r. depth (commit_of r) ≤ 128) (sym h.is) (one_shallow h.key h.value (simple_depth h.key h.simple_key) (simple_depth h.value h.simple_value))
+-- no content is the commit of two records
+pub same_commit : (content : List ℕ) (a b : Tree) → IsCommit content a → IsCommit content b → a ≡ b
+same_commit content a b x y = commit_of_injective a b (one_tree content (commit_of a) (commit_of b) x y)
 
 -- ---- what a text is not
 
@@ -80,24 +65,26 @@ never_refused (WideInt place) t h r = absurd (cc)
 never_refused (TooDeep place) t h r = absurd (cc)
 never_refused Memory t h r = h refl
 
--- what is refused for another reason than memory is the commit of no record
-pub refused_result : {E : Type 0} (content : List ℕ) (e : WireErr) (r : Result (Option Term) E) → ((t : Tree) → IsPlain t → depth t ≤ 128 → content ≡ canon t → Refuses e (Ok t))
+-- what is refused for another reason than memory is no text
+pub refused_result : {E : Type 0} (content : List ℕ) (e : WireErr) (r : Result (Option Term) E) → ((t : Tree) → IsText content t → Refuses e (Ok t))
     → IfOk r (λ found. (found ≡ None) × (e ≡ Memory → ⊥))
-    → IfOk r (λ found. MatchOption found (IsNoCommit content) (λ item. IsRow (tree_of item) × (content ≡ commit_text (tree_of item))))
-refused_result content e (Ok None) only h = λ item is text. never_refused e (commit_of item) h.1 (only (commit_of item) (row_plain item is) (row_shallow item is) text)
-refused_result content e (Ok (Some item)) only h = let none : Some item ≡ None = h.0 in absurd (cc)
+    → IfOk r (λ found. MatchOption found (IsNoText content) (λ term. IsText content (tree_of term)))
+refused_result content e (Ok None) only h = λ t text. never_refused e t h.1 (only t text)
+refused_result content e (Ok (Some term)) only h = let none : Some term ≡ None = h.0 in absurd (cc)
 refused_result content e (Err f) only h = tt
 
 -- what is read as another tree is not it either
-read_other : (content : List ℕ) (t : Tree) → IsPlain t → content ≡ canon t → WritesNone t → IsNoCommit content
-read_other content t plain found none item is text = none item is (one_tree t (commit_of item) plain (row_plain item is) (sym found ∙ text))
-
-pub read_result : {E : Type 0} (content : List ℕ) (t : Tree) (r : Result (Option Term) E) → IsPlain t → content ≡ canon t
+pub read_result : {E : Type 0} (content : List ℕ) (t : Tree) (r : Result (Option Term) E) → IsText content t
     → IfOk r (λ found. MatchOption found (WritesNone t) (λ item. IsRow (tree_of item) × (t ≡ commit_of (tree_of item))))
-    → IfOk r (λ found. MatchOption found (IsNoCommit content) (λ item. IsRow (tree_of item) × (content ≡ commit_text (tree_of item))))
-read_result content t (Ok None) plain found none = read_other content t plain found none
-read_result content t (Ok (Some item)) plain found both = (both.0, found ∙ ap canon both.1)
-read_result content t (Err e) plain found h = tt
+    → IfOk r (λ found. MatchOption found (IsNoCommit content) (λ item. IsRow (tree_of item) × IsCommit content (tree_of item)))
+read_result content t (Ok None) found none = λ item is text. none item is (one_tree content t (commit_of item) found text)
+read_result content t (Ok (Some item)) found both = (both.0, subst (IsText content) both.1 found)
+read_result content t (Err e) found h = tt
+
+-- the same of the first item
+pub head_result : {E : Type 0} (content : List ℕ) (t : Tree) (r : Result Bool E) → IsText content t → IfOk r (λ same. IsTrue same ↔ (t ≡ log_head)) → IfOk r (λ is. IsTrue is ↔ IsHead content)
+head_result content t (Ok is) found h = (λ yes. subst (IsText content) (h.0 yes) found, λ head. h.1 (one_tree content t log_head found head))
+head_result content t (Err e) found h = tt
 
 -- ---- what a commit does not write
 

@@ -1,95 +1,115 @@
 -- What a directory stands for: one list of writes, or no meaning from one place on.
 use Rattle.std.proofs.Common.{◌≡◌, ℕ, zero, suc, ◌+◌, ◌<◌, true, map, List, [], ◌∷◌, ◌++◌, length, take, Some, refl, sym, ap, ◌∙◌, subst, inl, inr, arith, lit<, length-append}
 use Rattle.std.specs.Prelude.{slice_get}
-use Rattle.std.proofs.lemmas.List.Elements.{All-cons, All-nil, All-head, All-tail}
+use Rattle.std.proofs.lemmas.List.Elements.{All-head, All-tail}
 use Rattle.term_core.specs.Tree.{Tree}
-use Rattle.disk_logs.specs.Items.{item_bytes, wire, log_bytes, IsSmall, AreSmall}
+use Rattle.log_items.specs.Items.{item_bytes, wire, log_bytes, IsContent, AreContents}
 use Rattle.disk_logs.specs.Chunks.{places_of}
-use Rattle.disk_logs.specs.Scan.{IsBadAt}
-use Rattle.disk_logs.proofs.Unique.{one_list, closed_not_bad, one_place}
-use Rattle.mn_run.specs.Commits.{IsRow, AreRows, IsNoCommit, commit_text, commits_of, head_text}
-use Rattle.mn_run.specs.Files.{Files, Stands, IsWrongFrom, IsWrongLogAt, NoMeaning}
+use Rattle.disk_logs.specs.Closed.{IsBadAt}
+use Rattle.log_items.proofs.Unique.{one_list, whole_file}
+use Rattle.disk_logs.proofs.ClosedLogs.{closed_not_bad, one_place}
+use Rattle.mn_run.specs.Commits.{IsRow, AreRows, IsCommit, IsNoCommit, AreCommits, AreItemsOf}
+use Rattle.mn_run.specs.Files.{Files, Stands, LacksHead, IsWrongFrom, IsWrongLogAt, NoMeaning}
 use Rattle.mn_run.specs.Tables.{put_record, written}
-use Rattle.mn_run.proofs.CommitTexts.{row_small}
-use Rattle.mn_run.proofs.CommitsRead.{commit_text_injective}
-
--- ---- small items
-
-pub rows_small : (rows : List Tree) → AreRows rows → AreSmall (commits_of rows)
-rows_small rows good = All-cons IsSmall head_text (map commit_text rows) (lit< tt) (texts rows good)
-  where
-    texts : (some : List Tree) → AreRows some → AreSmall (map commit_text some)
-    texts [] h = All-nil IsSmall
-    texts (row ∷ some) h = All-cons IsSmall (commit_text row) (map commit_text some) (row_small row (All-head IsRow row some h)) (texts some (All-tail IsRow row some h))
+use Rattle.mn_run.proofs.CommitsRead.{same_commit}
 
 -- ---- one list of writes
 
-same_texts : (rows others : List Tree) → AreRows rows → AreRows others → map commit_text rows ≡ map commit_text others → rows ≡ others
-same_texts [] [] s t is = refl
-same_texts [] (other ∷ others) s t is = absurd (cc)
-same_texts (row ∷ rows) [] s t is = absurd (cc)
-same_texts (row ∷ rows) (other ∷ others) s t is =
-    let first : row ≡ other = commit_text_injective row other (All-head IsRow row rows s) (All-head IsRow other others t) (cc) in
-    let rest : rows ≡ others = same_texts rows others (All-tail IsRow row rows s) (All-tail IsRow other others t) (cc) in
+same_rows : (rows others : List Tree) (contents : List (List ℕ)) → AreCommits rows contents → AreCommits others contents → rows ≡ others
+same_rows [] [] contents s t = refl
+same_rows [] (other ∷ others) [] s t = absurd t
+same_rows [] (other ∷ others) (content ∷ contents) s t = absurd s
+same_rows (row ∷ rows) [] [] s t = absurd s
+same_rows (row ∷ rows) [] (content ∷ contents) s t = absurd t
+same_rows (row ∷ rows) (other ∷ others) [] s t = absurd s
+same_rows (row ∷ rows) (other ∷ others) (content ∷ contents) s t =
+    let first : row ≡ other = same_commit content row other s.0 t.0 in
+    let rest : rows ≡ others = same_rows rows others contents s.1 t.1 in
     λ i. first i ∷ rest i
+
+same_items : (rows others : List Tree) (items : List (List ℕ)) → AreItemsOf rows items → AreItemsOf others items → rows ≡ others
+same_items rows others [] s t = absurd s
+same_items rows others (first ∷ contents) s t = same_rows rows others contents s.1 t.1
 
 some_is : {T : Type 0} (x y : T) → Some x ≡ Some y → x ≡ y
 some_is x y h = cc
 
 -- two lists of items of one closed file
-one_closed : (items others : List (List ℕ)) → AreSmall items → AreSmall others → log_bytes true items ≡ log_bytes true others → items ≡ others
-one_closed items others s t is = one_list (log_bytes true items) items others (s, inl refl) (t, inl is)
+one_closed : (items others : List (List ℕ)) → AreContents items → AreContents others → log_bytes true items ≡ log_bytes true others → items ≡ others
+one_closed items others s t is = one_list (log_bytes true items) items others (true, whole_file true (log_bytes true items) items s refl) (true, whole_file true (log_bytes true items) others t is)
 
 pub one_base : (files : Files) (base other : List Tree) → Stands files base → Stands files other → base ≡ other
 one_base files base other (inl (a, none)) (inl (b, also)) = none ∙ sym also
-one_base files base other (inl (a, none)) (inr (b, good)) = absurd (cc)
-one_base files base other (inr (a, good)) (inl (b, none)) = absurd (cc)
-one_base files base other (inr (a, good)) (inr (b, well)) =
-    let same : commits_of base ≡ commits_of other = one_closed (commits_of base) (commits_of other) (rows_small base good) (rows_small other well) (some_is _ _ (sym a ∙ b)) in
-    same_texts base other good well (cc)
+one_base files base other (inl (a, none)) (inr ((items, commits, small, is), good)) = absurd (cc)
+one_base files base other (inr ((items, commits, small, is), good)) (inl (b, none)) = absurd (cc)
+one_base files base other (inr ((items, commits, small, is), good)) (inr ((others, texts, few, also), well)) =
+    let same : items ≡ others = one_closed items others small few (some_is _ _ (sym is ∙ also)) in
+    same_items base other others (subst (AreItemsOf base) same commits) texts
 
 -- ---- a meaning or none
 
-no_commit : (rows some : List Tree) (other : List ℕ) (others : List (List ℕ)) → AreRows rows → AreRows some → IsNoCommit other → map commit_text rows ≡ map commit_text some ++ other ∷ others → ⊥
-no_commit [] [] other others s t none is = absurd (cc)
-no_commit [] (x ∷ some) other others s t none is = absurd (cc)
-no_commit (row ∷ rows) [] other others s t none is = none row (All-head IsRow row rows s) (cc)
-no_commit (row ∷ rows) (x ∷ some) other others s t none is = no_commit rows some other others (All-tail IsRow row rows s) (All-tail IsRow x some t) none (cc)
+no_commit : (rows some : List Tree) (contents front : List (List ℕ)) (other : List ℕ) (others : List (List ℕ)) → AreRows rows → AreCommits rows contents → AreCommits some front → IsNoCommit other → contents ≡ front ++ other ∷ others → ⊥
+no_commit [] some [] [] other others good s t none is = absurd (cc)
+no_commit [] some [] (x ∷ front) other others good s t none is = absurd (cc)
+no_commit [] some (content ∷ contents) front other others good s t none is = absurd s
+no_commit (row ∷ rows) some [] front other others good s t none is = absurd s
+no_commit (row ∷ rows) some (content ∷ contents) [] other others good s t none is =
+    let same : content ≡ other = cc in
+    none row (All-head IsRow row rows good) (subst (λ x. IsCommit x row) same s.0)
+no_commit (row ∷ rows) [] (content ∷ contents) (x ∷ front) other others good s t none is = absurd t
+no_commit (row ∷ rows) (y ∷ some) (content ∷ contents) (x ∷ front) other others good s t none is = no_commit rows some contents front other others (All-tail IsRow row rows good) s.1 t.1 none (cc)
 
-not_wrong : (base : List Tree) (n : ℕ) → AreRows base → IsWrongFrom (commits_of base) n → ⊥
-not_wrong base n good (inl (zero_is, none)) = none (map commit_text base) refl
-not_wrong base n good (inr h) = no_commit base h.rows h.other h.others good h.good h.bad (cc)
+not_wrong : (base : List Tree) (items : List (List ℕ)) (n : ℕ) → AreRows base → AreItemsOf base items → IsWrongFrom items n → ⊥
+not_wrong base [] n good s wrong = absurd s
+not_wrong base (first ∷ contents) n good s (inl (zero_is, none)) = none first contents refl s.0
+not_wrong base (first ∷ contents) n good s (inr h) = by h.front h.commits h.is
+  where
+    by : (front : List (List ℕ)) → AreItemsOf h.rows front → first ∷ contents ≡ front ++ h.other ∷ h.others → ⊥
+    by [] t is = absurd t
+    by (x ∷ front) t is = no_commit base h.rows contents front h.other h.others good s.1 t.1 h.bad (cc)
 
 -- a directory that stands for something has a meaning
 pub exclusive : (files : Files) (base : List Tree) (at : ℕ) → Stands files base → NoMeaning files at → ⊥
 exclusive files base at (inl (none, is)) (bytes, some, bad) = absurd (cc)
-exclusive files base at (inr (a, good)) (bytes, some, inl bad) =
-    closed_not_bad bytes at (commits_of base, rows_small base good, some_is _ _ (sym some ∙ a)) bad
-exclusive files base at (inr (a, good)) (bytes, some, inr bad) =
-    let same : bad.0 ≡ commits_of base = one_closed bad.0 (commits_of base) bad.1 (rows_small base good) (sym bad.2 ∙ some_is _ _ (sym some ∙ a)) in
+exclusive files base at (inr ((items, commits, small, a), good)) (bytes, some, inl bad) = closed_not_bad bytes at (items, small, some_is _ _ (sym some ∙ a)) bad
+exclusive files base at (inr ((items, commits, small, a), good)) (bytes, some, inr bad) =
+    let same : bad.0 ≡ items = one_closed bad.0 items bad.1 small (sym bad.2 ∙ some_is _ _ (sym some ∙ a)) in
     let wrong = bad.3 in
-    not_wrong base wrong.number good (subst (λ items. IsWrongFrom items wrong.number) same wrong.wrong)
+    not_wrong base items wrong.number good commits (subst (λ xs. IsWrongFrom xs wrong.number) same wrong.wrong)
 
 -- ---- one place
 
-one_wrong : (rows others : List Tree) (x y : List ℕ) (xs ys : List (List ℕ)) → AreRows rows → AreRows others → IsNoCommit x → IsNoCommit y → map commit_text rows ++ x ∷ xs ≡ map commit_text others ++ y ∷ ys
-    → length rows ≡ length others
-one_wrong [] [] x y xs ys s t a b is = refl
-one_wrong [] (other ∷ others) x y xs ys s t a b is = absurd (a other (All-head IsRow other others t) (cc))
-one_wrong (row ∷ rows) [] x y xs ys s t a b is = absurd (b row (All-head IsRow row rows s) (cc))
-one_wrong (row ∷ rows) (other ∷ others) x y xs ys s t a b is = ap suc (one_wrong rows others x y xs ys (All-tail IsRow row rows s) (All-tail IsRow other others t) a b (cc))
+one_wrong : (rows others : List Tree) (front back : List (List ℕ)) (x y : List ℕ) (xs ys : List (List ℕ)) → AreRows rows → AreRows others → AreCommits rows front → AreCommits others back → IsNoCommit x → IsNoCommit y → front ++ x ∷ xs ≡ back ++ y ∷ ys
+    → length front ≡ length back
+one_wrong rows others [] [] x y xs ys s t p q a b is = refl
+one_wrong rows [] [] (z ∷ back) x y xs ys s t p q a b is = absurd q
+one_wrong rows (other ∷ others) [] (z ∷ back) x y xs ys s t p q a b is =
+    let same : z ≡ x = cc in
+    absurd (a other (All-head IsRow other others t) (subst (λ content. IsCommit content other) same q.0))
+one_wrong [] others (z ∷ front) [] x y xs ys s t p q a b is = absurd p
+one_wrong (row ∷ rows) others (z ∷ front) [] x y xs ys s t p q a b is =
+    let same : z ≡ y = cc in
+    absurd (b row (All-head IsRow row rows s) (subst (λ content. IsCommit content row) same p.0))
+one_wrong [] others (z ∷ front) (w ∷ back) x y xs ys s t p q a b is = absurd p
+one_wrong (row ∷ rows) [] (z ∷ front) (w ∷ back) x y xs ys s t p q a b is = absurd q
+one_wrong (row ∷ rows) (other ∷ others) (z ∷ front) (w ∷ back) x y xs ys s t p q a b is =
+    ap suc (one_wrong rows others front back x y xs ys (All-tail IsRow row rows s) (All-tail IsRow other others t) p.1 q.1 a b (cc))
 
-map_length : (rows : List Tree) → length (map commit_text rows) ≡ length rows
-map_length [] = refl
-map_length (row ∷ rows) = ap suc (map_length rows)
+-- a head where there is none
+no_head : (rows : List Tree) (items front : List (List ℕ)) (others : List (List ℕ)) → LacksHead items → AreItemsOf rows front → items ≡ front ++ others → ⊥
+no_head rows items [] others none h is = h
+no_head rows items (first ∷ front) others none h is = none first (front ++ others) is h.0
 
 one_number : (items : List (List ℕ)) (m n : ℕ) → IsWrongFrom items m → IsWrongFrom items n → m ≡ n
 one_number items m n (inl (a, none)) (inl (b, also)) = a ∙ sym b
-one_number items m n (inl (a, none)) (inr h) = absurd (none (map commit_text h.rows ++ h.other ∷ h.others) h.is)
-one_number items m n (inr h) (inl (b, none)) = absurd (none (map commit_text h.rows ++ h.other ∷ h.others) h.is)
-one_number items m n (inr g) (inr h) =
-    let same = one_wrong g.rows h.rows g.other h.other g.others h.others g.good h.good g.bad h.bad (cc) in
-    omega (arith, g.number, h.number, map_length g.rows, map_length h.rows, same)
+one_number items m n (inl (a, none)) (inr h) = absurd (no_head h.rows items h.front (h.other ∷ h.others) none h.commits h.is)
+one_number items m n (inr h) (inl (b, none)) = absurd (no_head h.rows items h.front (h.other ∷ h.others) none h.commits h.is)
+one_number items m n (inr g) (inr h) = g.number ∙ by g.front h.front g.commits h.commits (sym g.is ∙ h.is) ∙ sym h.number
+  where
+    by : (front back : List (List ℕ)) → AreItemsOf g.rows front → AreItemsOf h.rows back → front ++ g.other ∷ g.others ≡ back ++ h.other ∷ h.others → length front ≡ length back
+    by [] back p q is = absurd p
+    by (x ∷ front) [] p q is = absurd q
+    by (x ∷ front) (y ∷ back) p q is = ap suc (one_wrong g.rows h.rows front back g.other h.other g.others h.others g.good h.good p.1 q.1 g.bad h.bad (cc))
 
 one_wrong_place : (bytes : List ℕ) (at other : ℕ) → IsWrongLogAt bytes at → IsWrongLogAt bytes other → at ≡ other
 one_wrong_place bytes at other (items, s, is, g) (others, t, also, h) =

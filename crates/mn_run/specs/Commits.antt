@@ -1,10 +1,11 @@
 -- What a write puts into the log.
-use Rattle.std.specs.Prelude.{◌≡◌, ℕ, zero, suc, ◌≤◌, ◌<◌, true, pos, FitsSigned, List, [], ◌∷◌, length, map, codes, All, Option, Some, None}
+use Rattle.std.specs.Prelude.{◌≡◌, ℕ, zero, suc, ◌≤◌, ◌<◌, true, pos, FitsSigned, List, [], ◌∷◌, length, codes, All, ⊤, Option, Some, None}
 use Rattle.std.specs.Char.{is_ascii_lowercase}
 use Rattle.std.specs.Int.{w32}
 use Rattle.std.specs.List.{list_all}
 use Rattle.term_core.specs.Tree.{Tree, int, atom, tuple, list, bin, Trees, no_trees, tree, inner}
-use Rattle.term_wire.specs.Spelling.{canon}
+use Rattle.term_core.specs.Written.{canon}
+use Rattle.term_wire.specs.Spelling.{IsText}
 use Rattle.mn_run.specs.Commands.{row}
 
 -- a number of 32 bits, or an atom of 1 to 32 letters from a to z
@@ -34,13 +35,21 @@ write_of row = tuple (tree (atom (codes "write")) (tree (atom (codes "t")) (tree
 abbrev pub commit_of : Tree → Tree
 commit_of row = tuple (tree (atom (codes "commit")) (tree (int (pos 0)) (tree (list no_trees) (tree (list (tree (write_of row) no_trees)) no_trees))))
 
--- the text of a commit: an item of the log
+-- the content of an item is a text of this record's commit
+abbrev pub IsCommit : List ℕ → Tree → Type 0
+IsCommit content row = IsText content (commit_of row)
+
+-- the text that is written of it
 abbrev pub commit_text : Tree → List ℕ
 commit_text row = canon (commit_of row)
 
+-- it is a text of no tree
+abbrev pub IsNoText : List ℕ → Type 0
+IsNoText content = (t : Tree) → IsText content t → ⊥
+
 -- it is the commit of no record
 abbrev pub IsNoCommit : List ℕ → Type 0
-IsNoCommit content = (row : Tree) → IsRow row → content ≡ commit_text row → ⊥
+IsNoCommit content = (row : Tree) → IsRow row → IsCommit content row → ⊥
 
 -- it is the tree of no record's commit
 abbrev pub WritesNone : Tree → Type 0
@@ -56,10 +65,25 @@ tree_at (suc n) (tree t ts) = tree_at n ts
 abbrev pub part : ℕ → Tree → Option Tree
 part n t = tree_at n (inner t)
 
--- the text of the first item of a log: `{log1}`
+-- the first item of a log: `{log1}`
+abbrev pub log_head : Tree
+log_head = tuple (tree (atom (codes "log1")) no_trees)
+
+abbrev pub IsHead : List ℕ → Type 0
+IsHead content = IsText content log_head
+
+-- the text that is written of it
 abbrev pub head_text : List ℕ
 head_text = 131 ∷ 104 ∷ 1 ∷ 119 ∷ 4 ∷ 108 ∷ 111 ∷ 103 ∷ 49 ∷ []
 
+-- the contents are the commits of these records, in order
+abbrev pub AreCommits : List Tree → List (List ℕ) → Type 0
+AreCommits [] [] = ⊤
+AreCommits [] (content ∷ contents) = ⊥
+AreCommits (row ∷ rows) [] = ⊥
+AreCommits (row ∷ rows) (content ∷ contents) = IsCommit content row × AreCommits rows contents
+
 -- the items of a log with these writes
-abbrev pub commits_of : List Tree → List (List ℕ)
-commits_of rows = head_text ∷ map commit_text rows
+abbrev pub AreItemsOf : List Tree → List (List ℕ) → Type 0
+AreItemsOf rows [] = ⊥
+AreItemsOf rows (first ∷ contents) = IsHead first × AreCommits rows contents

@@ -1,11 +1,11 @@
 -- What a directory of files stands for.
-use Rattle.std.specs.Prelude.{◌≡◌, ◌⊎◌, ℕ, ◌+◌, true, false, List, [], ◌∷◌, ◌++◌, length, take, codes, Option, None, Some}
+use Rattle.std.specs.Prelude.{◌≡◌, ◌⊎◌, ℕ, ◌+◌, Bool, true, false, List, [], ◌∷◌, ◌++◌, length, take, codes, Option, None, Some}
 use Rattle.term_core.specs.Tree.{Tree}
 use Rattle.file_trait.specs.DiskModel.{Past, reads}
-use Rattle.disk_logs.specs.Items.{wire, log_bytes, HasItems, AreSmall}
+use Rattle.log_items.specs.Items.{wire, log_bytes, HasItems, AreContents}
 use Rattle.disk_logs.specs.Logs.{Handle}
-use Rattle.disk_logs.specs.Scan.{IsBadAt}
-use Rattle.mn_run.specs.Commits.{head_text, commits_of, AreRows, IsNoCommit}
+use Rattle.disk_logs.specs.Closed.{IsBadAt}
+use Rattle.mn_run.specs.Commits.{IsHead, AreItemsOf, AreRows, IsNoCommit}
 use Rattle.mn_run.specs.Machine.{Machine}
 use Rattle.mn_run.specs.Tables.{records_of}
 
@@ -16,23 +16,29 @@ Files = List ℕ → Option (List ℕ)
 abbrev pub latest : List ℕ
 latest = codes "LATEST.LOG"
 
+-- a log with this mark and the commits of these writes
+abbrev pub IsLogOf : Bool → List Tree → Option (List ℕ) → Type 0
+IsLogOf closed rows file = (items : List (List ℕ)) × AreItemsOf rows items × AreContents items × (file ≡ Some (log_bytes closed items))
+
 -- a directory without a log stands for no writes, and one with a closed log for those that it has
 abbrev pub Stands : Files → List Tree → Type 0
-Stands files base = ((files latest ≡ None) × (base ≡ [])) ⊎ ((files latest ≡ Some (log_bytes true (commits_of base))) × AreRows base)
+Stands files base = ((files latest ≡ None) × (base ≡ [])) ⊎ (IsLogOf true base (files latest) × AreRows base)
 
 -- the first item is not a log's
 abbrev pub LacksHead : List (List ℕ) → Type 0
-LacksHead items = (others : List (List ℕ)) → items ≡ head_text ∷ others → ⊥
+LacksHead items = (first : List ℕ) (others : List (List ℕ)) → items ≡ first ∷ others → IsHead first → ⊥
 
 -- behind the first item the commits of these records stand, and then, as item number n, one that is none
 pub record HasNoCommit (items : List (List ℕ)) (n : ℕ) : Type 0 where
   pub rows : List Tree
+  pub front : List (List ℕ)
   pub other : List ℕ
   pub others : List (List ℕ)
   pub good : AreRows rows
+  pub commits : AreItemsOf rows front
   pub bad : IsNoCommit other
-  pub is : items ≡ commits_of rows ++ other ∷ others
-  pub number : n ≡ length (commits_of rows)
+  pub is : items ≡ front ++ other ∷ others
+  pub number : n ≡ length front
 
 -- the first item that should not be there, or the missing one, is number n, counted from 0
 abbrev pub IsWrongFrom : List (List ℕ) → ℕ → Type 0
@@ -46,7 +52,7 @@ pub record IsWrongAt (items : List (List ℕ)) (at : ℕ) : Type 0 where
 
 -- a closed log with items that are wrong from this place on
 abbrev pub IsWrongLogAt : List ℕ → ℕ → Type 0
-IsWrongLogAt bytes at = (items : List (List ℕ)) × AreSmall items × (bytes ≡ log_bytes true items) × IsWrongAt items at
+IsWrongLogAt bytes at = (items : List (List ℕ)) × AreContents items × (bytes ≡ log_bytes true items) × IsWrongAt items at
 
 -- the log has no meaning, from this place on: it is no closed log, or one with other items
 abbrev pub NoMeaning : Files → ℕ → Type 0
@@ -54,7 +60,7 @@ NoMeaning files at = (bytes : List ℕ) × (files latest ≡ Some bytes) × (IsB
 
 -- the log has the commits of these writes, and no log has none
 abbrev pub Keeps : Files → List Tree → Type 0
-Keeps files rows = ((files latest ≡ None) × (rows ≡ [])) ⊎ ((bytes : List ℕ) × (files latest ≡ Some bytes) × HasItems bytes (commits_of rows))
+Keeps files rows = ((files latest ≡ None) × (rows ≡ [])) ⊎ ((bytes : List ℕ) × (items : List (List ℕ)) × (files latest ≡ Some bytes) × AreItemsOf rows items × HasItems bytes items)
 
 -- the log has the commits of these writes, and of one in doubt perhaps
 abbrev pub KeepsUpTo : Files → List Tree → Option Tree → Type 0
@@ -67,7 +73,7 @@ Holds files machine = KeepsUpTo files (machine.base ++ machine.entries) machine.
 
 -- the log is closed and has the machine's writes
 abbrev pub HoldsClosed : Files → Machine → Type 0
-HoldsClosed files machine = files latest ≡ Some (log_bytes true (commits_of (machine.base ++ machine.entries)))
+HoldsClosed files machine = IsLogOf true (machine.base ++ machine.entries) (files latest)
 
 -- rows, the log's handle and the disk stand for a machine that is up
 pub record Shows (rows : List Tree) (log : Handle) (past : Past) (machine : Machine) : Type 0 where
@@ -76,5 +82,7 @@ pub record Shows (rows : List Tree) (log : Handle) (past : Past) (machine : Mach
   pub table : (key : Tree) → records_of key rows ≡ records_of key machine.table
   pub name : log.name ≡ latest
   pub published : log.draft ≡ false
-  pub small : AreSmall (commits_of (machine.base ++ machine.entries))
-  pub file : reads past latest ≡ Some (log_bytes log.closed (commits_of (machine.base ++ machine.entries)))
+  pub items : List (List ℕ)
+  pub commits : AreItemsOf (machine.base ++ machine.entries) items
+  pub small : AreContents items
+  pub file : reads past latest ≡ Some (log_bytes log.closed items)

@@ -1,12 +1,11 @@
 -- How a log makes a table.
 use Rattle.std.specs.Prelude.{◌≡◌, ℕ, true, List, [], Option, Some}
 use Rattle.term_core.specs.Tree.{Tree}
-use Rattle.disk_logs.specs.Items.{log_bytes}
-use Rattle.disk_logs.specs.Scan.{IsClosedLog}
+use Rattle.disk_logs.specs.Closed.{IsClosedLog}
 use Rattle.disk_logs.specs.declared.error.LogErr.{LogErr}
 use Rattle.disk_logs.specs.declared.error.LogErr.TheVariants.{File, Bad, TooLong, Memory}
-use Rattle.mn_run.specs.Commits.{AreRows, commits_of}
-use Rattle.mn_run.specs.Files.{Files, latest}
+use Rattle.mn_run.specs.Commits.{AreRows, AreItemsOf}
+use Rattle.mn_run.specs.Files.{Files, latest, IsLogOf}
 use Rattle.mn_run.specs.Tables.{records_of, written}
 use Rattle.mn_run.specs.declared.starting.StartErr.{StartErr}
 use Rattle.mn_run.specs.declared.starting.StartErr.TheVariants as start
@@ -18,14 +17,14 @@ IsClosedFile file = (bytes : List ℕ) × (file ≡ Some bytes) × IsClosedLog b
 pub record MakesTable (items : List (List ℕ)) (table : List Tree) : Type 0 where
   pub rows : List Tree
   pub good : AreRows rows
-  pub is : items ≡ commits_of rows
+  pub commits : AreItemsOf rows items
   pub same : (key : Tree) → records_of key table ≡ records_of key (written rows [])
 
 -- the same of the log of a directory
 pub record Loads (files : Files) (table : List Tree) : Type 0 where
   pub rows : List Tree
   pub good : AreRows rows
-  pub is : files latest ≡ Some (log_bytes true (commits_of rows))
+  pub is : IsLogOf true rows (files latest)
   pub same : (key : Tree) → records_of key table ≡ records_of key (written rows [])
 
 -- how a start fails where the log did

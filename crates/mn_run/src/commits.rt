@@ -1,17 +1,18 @@
 //! What a write puts into the log, and what such an item says.
 
-ghost use Rattle.std.specs.Prelude.{◌≡◌, ◌↔◌, ◌∷◌, [], length, ◌<◌, ◌≤◌, true, IfOk, IsTrue, Some, None, MatchOption};
+ghost use Rattle.std.specs.Prelude.{◌≡◌, ◌↔◌, ◌∷◌, [], length, ◌<◌, ◌≤◌, true, false, Ok, IfOk, IsTrue, Some, None, MatchOption};
 ghost use Rattle.std.specs.Char.{is_ascii_lowercase};
 ghost use Rattle.std.specs.List.{list_all};
 ghost use Rattle.std.specs.Option.{option_map};
 ghost use Rattle.term_core.specs.Tree.{Tree};
 ghost use Rattle.term_core.specs.View.{tree_of};
+ghost use Rattle.term_wire.specs.Spelling.{IsText};
 ghost use Rattle.mn_run.specs.Commands.{row};
-ghost use Rattle.disk_logs.specs.Items.{item_bytes};
+ghost use Rattle.log_items.specs.Items.{item_bytes};
 ghost use Rattle.mn_run.specs.Commits as commits;
 
 use crate::terms::{atom, copied};
-use disk_logs::put_item;
+use log_items::put_item;
 use sqlite_items::Items;
 use std::alloc::{AllocError, Global};
 use term_core::Term;
@@ -20,21 +21,63 @@ use term_wire::{WireErr, decode, encode};
 /// The text of the first item of a log, `{log1}`.
 pub const HEAD_TEXT: [u8; 9] = [131, 104, 1, 119, 4, 108, 111, 103, 49];
 
+/// The term that an item's content is a text of, where it is one.
+fn term_of(alloc: Global, content: &[u8]) -> Result<Option<Term>, AllocError>
+    ensures { IfOk result (λ found. MatchOption found (commits.IsNoText content.now) (λ term. IsText content.now (tree_of term))) }
+{
+    match decode(alloc, content) {
+        Ok(term) => Ok(Some(term)),
+        Err(error) => without_term(error),
+    }
+}
+
+/// A content that cannot be read is no text, but want of memory tells nothing.
+fn without_term(error: WireErr) -> Result<Option<Term>, AllocError>
+    ensures { IfOk result (λ found. (found ≡ None) × (error ≡ WireErr.Memory → ⊥)) }
+{
+    match error {
+        WireErr::Memory => Err(AllocError),
+        WireErr::Bad(_) | WireErr::Outside(_, _) | WireErr::WideInt(_) | WireErr::TooDeep(_) => {
+            Ok(None)
+        }
+    }
+}
+
+/// Whether an item's content is a text of `{log1}`.
+pub fn is_head(alloc: Global, content: &[u8]) -> Result<bool, AllocError>
+    ensures { IfOk result (λ is. IsTrue is ↔ commits.IsHead content.now) }
+{
+    match term_of(alloc, content) {
+        Ok(Some(term)) => is_log_head(alloc, &term),
+        Ok(None) => Ok(false),
+        Err(error) => Err(error),
+    }
+}
+
+fn is_log_head(alloc: Global, term: &Term) -> Result<bool, AllocError>
+    ensures { IfOk result (λ same. IsTrue same ↔ (tree_of term.now ≡ commits.log_head)) }
+{
+    let mut parts = Items::new(alloc);
+    parts.push(atom(alloc, "log1")?)?;
+    Ok(Term::Tuple(parts) == *term)
+}
+
 /// The whole item of the commit that writes this record.
-#[tactic(auto, using(crate::proofs::CommitTexts::row_plain, crate::proofs::CommitTexts::row_small))]
+#[tactic(auto, using(crate::proofs::CommitTexts::row_small))]
 pub fn commit_item(alloc: Global, row: &Term) -> Result<Vec<u8>, AllocError>
     requires { commits.IsRow (tree_of row.now) }
     ensures { IfOk result (λ item. item.items ≡ item_bytes (commits.commit_text (tree_of row.now))) }
 {
     let text = commit_text(alloc, row)?;
     let mut item = Vec::new(alloc);
-    put_item(&text, &mut item)?;
-    Ok(item)
+    match put_item(&text, &mut item) {
+        Ok(()) => Ok(item),
+        // A commit is not too long.
+        Err(_) => Err(AllocError),
+    }
 }
 
-#[tactic(auto, using(crate::proofs::CommitTexts::row_plain))]
 fn commit_text(alloc: Global, row: &Term) -> Result<Vec<u8>, AllocError>
-    requires { commits.IsRow (tree_of row.now) }
     ensures { IfOk result (λ text. text.items ≡ commits.commit_text (tree_of row.now)) }
 {
     let commit = commit_of(alloc, row)?;
@@ -73,23 +116,12 @@ fn write_of(alloc: Global, row: &Term) -> Result<Term, AllocError>
 
 /// The record that an item's content writes, where the content is the commit of one record of the table `t`.
 pub fn row_of(alloc: Global, content: &[u8]) -> Result<Option<Term>, AllocError>
-    ensures { IfOk result (λ found. MatchOption found (commits.IsNoCommit content.now) (λ row. commits.IsRow (tree_of row) × (content.now ≡ commits.commit_text (tree_of row)))) }
+    ensures { IfOk result (λ found. MatchOption found (commits.IsNoCommit content.now) (λ row. commits.IsRow (tree_of row) × commits.IsCommit content.now (tree_of row))) }
 {
-    match decode(alloc, content) {
-        Ok(commit) => row_written(alloc, &commit),
-        Err(error) => without_row(error),
-    }
-}
-
-/// A content that cannot be read is no commit, but want of memory tells nothing.
-fn without_row(error: WireErr) -> Result<Option<Term>, AllocError>
-    ensures { IfOk result (λ found. (found ≡ None) × (error ≡ WireErr.Memory → ⊥)) }
-{
-    match error {
-        WireErr::Memory => Err(AllocError),
-        WireErr::Bad(_) | WireErr::Outside(_, _) | WireErr::WideInt(_) | WireErr::TooDeep(_) => {
-            Ok(None)
-        }
+    match term_of(alloc, content) {
+        Ok(Some(commit)) => row_written(alloc, &commit),
+        Ok(None) => Ok(None),
+        Err(error) => Err(error),
     }
 }
 
@@ -177,6 +209,13 @@ mod tests {
         5, 119, 114, 105, 116, 101, 119, 1, 116, 104, 3, 119, 1, 116, 97, 1, 119, 1, 97, 106,
     ];
 
+    // The same with its version in four bytes.
+    const ANOTHER_SPELLING: [u8; 45] = [
+        131, 104, 4, 119, 6, 99, 111, 109, 109, 105, 116, 98, 0, 0, 0, 0, 106, 108, 0, 0, 0, 1,
+        104, 3, 119, 5, 119, 114, 105, 116, 101, 119, 1, 116, 104, 3, 119, 1, 116, 97, 1, 119, 1,
+        97, 106,
+    ];
+
     #[test]
     fn a_commit_says_its_record(rt: HostRuntime) -> Result<(), Fail> {
         let row = row_with(rt.alloc(), &Term::Int(1), &atom(rt.alloc(), "a")?)?;
@@ -186,6 +225,7 @@ mod tests {
         another_version[12] = 1;
         let contents = [
             (COMMIT.as_slice(), true),
+            (ANOTHER_SPELLING.as_slice(), true),
             (HEAD_TEXT.as_slice(), false),
             (another_version.as_slice(), false),
             (&COMMIT[1..], false),

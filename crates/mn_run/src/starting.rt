@@ -6,17 +6,17 @@ ghost use Rattle.file_trait.specs.DiskModel.{reads};
 ghost use Rattle.term_core.specs.Tree.{Tree};
 ghost use Rattle.term_core.specs.View.{tree_of};
 ghost use Rattle.disk_logs.specs.Chunks.{places_of};
-ghost use Rattle.disk_logs.specs.Items.{wire, log_bytes};
+ghost use Rattle.log_items.specs.Items.{wire, log_bytes};
 ghost use Rattle.disk_logs.specs.Logs.{IsLog};
 ghost use Rattle.disk_logs.specs.Errors.{OnlyFileOrMemory, LogCause};
-ghost use Rattle.mn_run.specs.Commits.{IsRow, IsNoCommit, head_text, commit_text as text_of_commit};
+ghost use Rattle.mn_run.specs.Commits.{IsRow, IsCommit, IsNoCommit, AreItemsOf, head_text};
 ghost use Rattle.mn_run.specs.Files.{Stands, NoMeaning, LacksHead, IsWrongAt, Keeps, Shows, latest};
 ghost use Rattle.mn_run.specs.Loads.{IsClosedFile, Loads, MakesTable, start_error as error_of};
 ghost use Rattle.mn_run.specs.Machine.{down, booted};
 ghost use Rattle.mn_run.specs.Steps.{StartsDamaged};
 ghost use Rattle.mn_run.specs.declared.starting.StartErr.TheVariants.{Memory};
 
-use crate::commits::{HEAD_TEXT, row_of};
+use crate::commits::{HEAD_TEXT, is_head, row_of};
 use crate::names;
 use crate::node::Node;
 use crate::table::Table;
@@ -109,7 +109,7 @@ fn table_of(alloc: Global, items: &Items, places: &[u64]) -> Result<Table, Start
     ensures damaged { (name : List ℕ) (at : ℕ) → result ≡ Err (StartErr.Damaged name at) → (name ≡ latest) × IsWrongAt items.now at }
     ensures fault { IsErrOf result StartErr.Fault → ⊥ }
 {
-    if !has_head(items) {
+    if !has_head(alloc, items)? {
         return Err(StartErr::Damaged(names::latest(), 8));
     }
     let mut table = Table::new(alloc);
@@ -128,13 +128,12 @@ fn table_of(alloc: Global, items: &Items, places: &[u64]) -> Result<Table, Start
 }
 
 /// Whether the first item is a log's.
-fn has_head(items: &Items) -> bool
-    ensures head { result ≡ true → items.now ≡ head_text ∷ drop 1 items.now }
-    ensures lacks { result ≡ false → LacksHead items.now }
+fn has_head(alloc: Global, items: &Items) -> Result<bool, AllocError>
+    ensures { IfOk result (λ has. (IsTrue has → AreItemsOf [] (take 1 items.now)) × (has ≡ false → LacksHead items.now)) }
 {
     match items.get(0) {
-        Some(item) => item == HEAD_TEXT.as_slice(),
-        None => false,
+        Some(item) => is_head(alloc, item),
+        None => Ok(false),
     }
 }
 
@@ -143,7 +142,7 @@ fn record_at(alloc: Global, items: &Items, places: &[u64], number: usize) -> Res
     requires within { number < length items.now }
     requires placed { number < length places.now }
     requires places { places.now ≡ places_of 8 items.now }
-    ensures row { IfOk result (λ row. IsRow (tree_of row) × (slice_get items.now number ≡ Some (text_of_commit (tree_of row)))) }
+    ensures row { IfOk result (λ row. IsRow (tree_of row) × (content : List ℕ) × (slice_get items.now number ≡ Some content) × IsCommit content (tree_of row)) }
     ensures damaged { (name : List ℕ) (at : ℕ) → result ≡ Err (StartErr.Damaged name at)
         → (name ≡ latest) × (at ≡ 8 + length (wire (take number items.now))) × (content : List ℕ) × (slice_get items.now number ≡ Some content) × IsNoCommit content }
     ensures fault { IsErrOf result StartErr.Fault → ⊥ }

@@ -1,38 +1,40 @@
 -- Lists without the noughts at their end.
-use Rattle.std.proofs.Common.{◌≡◌, sym, ap, ◌∙◌, ℕ, zero, suc, ◌+◌, ◌<◌, ◌≤◌, List, [], ◌∷◌, ◌++◌, length, take, get_or, refl, arith, add-one}
-use Rattle.std.proofs.Math.Seq.{take-suc}
-use Rattle.std.proofs.lemmas.List.{length-take-le}
-use Rattle.std.specs.Prelude.{slice_index}
+use Rattle.std.proofs.Common.{◌≡◌, ℕ, zero, suc, ◌-◌, ◌<◌, ◌≤◌, List, [], ◌∷◌, ◌++◌, length, take, get_or, refl, sym, ap, ◌∙◌, arith}
 use Rattle.term_core.specs.Written.{trim_front, trimmed}
 
 trimmed-nought : (xs : List ℕ) → trimmed (xs ++ 0 ∷ []) ≡ trimmed xs
 trimmed-nought [] = refl
 trimmed-nought (x ∷ xs) = ap (trim_front x) (trimmed-nought xs)
 
-trimmed-other : (xs : List ℕ) (b : ℕ) → trimmed (xs ++ suc b ∷ []) ≡ xs ++ suc b ∷ []
-trimmed-other [] b = refl
-trimmed-other (x ∷ xs) b = ap (trim_front x) (trimmed-other xs b) ∙ front x xs
+trim_front-some : (x y : ℕ) (ys : List ℕ) → trim_front x (y ∷ ys) ≡ x ∷ y ∷ ys
+trim_front-some zero y ys = refl
+trim_front-some (suc x) y ys = refl
+
+trimmed-some : (xs : List ℕ) (n : ℕ) → trimmed (xs ++ suc n ∷ []) ≡ xs ++ suc n ∷ []
+trimmed-some [] n = refl
+trimmed-some (x ∷ []) n = trim_front-some x (suc n) []
+trimmed-some (x ∷ y ∷ xs) n = ap (trim_front x) (trimmed-some (y ∷ xs) n) ∙ trim_front-some x y (xs ++ suc n ∷ [])
+
+take-last : (xs : List ℕ) (n : ℕ) → n < length xs → take (suc n) xs ≡ take n xs ++ get_or xs n 0 ∷ []
+take-last [] n lt = absurd (omega arith)
+take-last (x ∷ xs) zero lt = refl
+take-last (x ∷ xs) (suc n) lt = ap (λ (ys : List ℕ). x ∷ ys) (take-last xs n (omega arith))
+
+-- a nought at the end of the first n
+pub trimmed-shorter : (xs : List ℕ) (n : ℕ) → 0 < n → n ≤ length xs → get_or xs (n - 1) 0 ≡ 0 → trimmed (take (n - 1) xs) ≡ trimmed (take n xs)
+trimmed-shorter xs zero lt le e = absurd (omega arith)
+trimmed-shorter xs (suc n) lt le e =
+    let same : suc n - 1 ≡ n = omega arith in
+    let last : get_or xs n 0 ≡ 0 = ap (λ (k : ℕ). get_or xs k 0) (sym same) ∙ e in
+    ap (λ (k : ℕ). trimmed (take k xs)) same ∙ sym (ap trimmed (take-last xs n (omega arith)) ∙ ap (λ (b : ℕ). trimmed (take n xs ++ b ∷ [])) last ∙ trimmed-nought (take n xs))
+
+-- another byte at their end, or nothing
+pub trimmed-whole : (xs : List ℕ) (n : ℕ) → n ≤ length xs → (0 < n → ¬ (get_or xs (n - 1) 0 ≡ 0)) → trimmed (take n xs) ≡ take n xs
+trimmed-whole xs zero le other = refl
+trimmed-whole xs (suc n) le other = by (get_or xs n 0) refl
   where
-    front : (x : ℕ) (xs : List ℕ) → trim_front x (xs ++ suc b ∷ []) ≡ x ∷ (xs ++ suc b ∷ [])
-    front zero [] = refl
-    front zero (y ∷ ys) = refl
-    front (suc x) xs = refl
-
--- a nought at the end counts for nothing
-pub shorter : (xs : List ℕ) (n m : ℕ) → n ≡ m + 1 → n ≤ length xs → slice_index xs m ≡ 0 → trimmed (take m xs) ≡ trimmed (take n xs)
-shorter xs n m is lt p =
-    rw (is, add-one) (sym (ap trimmed (take-suc xs m 0 (omega arith)) ∙ ap (λ (b : ℕ). trimmed (take m xs ++ b ∷ [])) p ∙ trimmed-nought (take m xs)))
-
--- where another byte stands at the end all of them count
-ends : (xs : List ℕ) (m c : ℕ) → suc m ≤ length xs → slice_index xs m ≡ c → 0 < c → length (trimmed (take (suc m) xs)) ≡ suc m
-ends xs m zero lt p some = absurd (omega arith)
-ends xs m (suc b) lt p some =
-    ap (λ (ys : List ℕ). length (trimmed ys)) (take-suc xs m 0 (omega arith))
-    ∙ ap (λ (c : ℕ). length (trimmed (take m xs ++ c ∷ []))) p
-    ∙ ap length (trimmed-other (take m xs) b)
-    ∙ ap (λ (c : ℕ). length (take m xs ++ c ∷ [])) (sym p)
-    ∙ ap length (sym (take-suc xs m 0 (omega arith)))
-    ∙ length-take-le (suc m) xs lt
-
-pub whole : (xs : List ℕ) (n m : ℕ) → n ≡ m + 1 → n ≤ length xs → 0 < slice_index xs m → length (trimmed (take n xs)) ≡ n
-whole xs n m is lt p = rw (is, add-one) (ends xs m (slice_index xs m) (omega arith) refl p)
+    by : (b : ℕ) → get_or xs n 0 ≡ b → trimmed (take (suc n) xs) ≡ take (suc n) xs
+    by zero e = absurd (other (omega arith) (let same : suc n - 1 ≡ n = omega arith in ap (λ (k : ℕ). get_or xs k 0) same ∙ e))
+    by (suc b) e =
+        let last : take (suc n) xs ≡ take n xs ++ suc b ∷ [] = take-last xs n (omega arith) ∙ ap (λ (k : ℕ). take n xs ++ k ∷ []) e in
+        ap trimmed last ∙ trimmed-some (take n xs) b ∙ sym last

@@ -1,18 +1,15 @@
 //! How long the written text of a term is.
 
 ghost use Rattle.std.specs.Prelude.{◌≡◌, ◌+◌, ◌<◌, ◌≤◌, ◌^◌, if◌then◌else◌, length, nat_le, MatchOption};
-ghost use Rattle.std.specs.Int.{w128, to_le_bytes};
 ghost use Rattle.term_core.specs.Tree.{tuple, list};
 ghost use Rattle.term_core.specs.View.{tree_of, forest_of};
-ghost use Rattle.term_core.specs.Written.{written, all_written, canon, number_written, digits_of, trimmed, is_byte, all_bytes, is_byte_list};
+ghost use Rattle.term_core.specs.Written.{written, all_written, canon, number_written, digits_of};
 
+use crate::shape::{fits_byte, fits_word, is_string, without_noughts};
 use crate::term::Term;
 
 /// The bytes of the longest text.
 const MOST_BYTES: usize = 1 << 28;
-
-/// The most numbers of a list that is written a byte each.
-const MOST_NUMBERS: usize = 65535;
 
 /// How many bytes the written text of the term has, or 2^28 + 1 where it has more than 2^28.
 pub fn wire_len(term: &Term) -> u64
@@ -57,7 +54,7 @@ fn room_after_list(items: &[Term], room: usize) -> Option<usize>
     if items.is_empty() {
         return room.checked_sub(1);
     }
-    if are_few_bytes(items) {
+    if is_string(items) {
         return room.checked_sub(3 + items.len());
     }
     room_after_all(items, room.checked_sub(6)?)
@@ -84,9 +81,9 @@ fn front_len(short: usize, long: usize, count: usize) -> usize
 fn number_len(number: i128) -> usize
     ensures { result ≡ length (number_written number) }
 {
-    if (0..256).contains(&number) {
+    if fits_byte(number) {
         2
-    } else if i32::try_from(number).is_ok() {
+    } else if fits_word(number) {
         5
     } else {
         3 + digits_len(number)
@@ -97,45 +94,5 @@ fn digits_len(number: i128) -> usize
     ensures count { result ≡ length (digits_of number) }
     ensures short { result ≤ 16 }
 {
-    significant(&number.unsigned_abs().to_le_bytes())
-}
-
-/// How many bytes are left without the noughts at the end.
-fn significant(bytes: &[u8]) -> usize
-    ensures count { result ≡ length (trimmed bytes.now) }
-    ensures within { result ≤ length bytes.now }
-{
-    let mut count = bytes.len();
-    while count > 0 && bytes[count - 1] == 0 {
-        count -= 1;
-    }
-    count
-}
-
-/// Whether a list of these elements is written a byte each.
-fn are_few_bytes(items: &[Term]) -> bool
-    ensures { result ≡ is_byte_list (forest_of items.now) }
-{
-    items.len() <= MOST_NUMBERS && are_bytes(items)
-}
-
-fn are_bytes(items: &[Term]) -> bool
-    ensures { result ≡ all_bytes (forest_of items.now) }
-{
-    for item in items {
-        if !is_small(item) {
-            return false;
-        }
-    }
-    true
-}
-
-/// A number from 0 to 255.
-fn is_small(term: &Term) -> bool
-    ensures { result ≡ is_byte (tree_of term.now) }
-{
-    match term {
-        Term::Int(number) => (0..256).contains(number),
-        Term::Atom(_) | Term::Tuple(_) | Term::List(_) | Term::Bin(_) => false,
-    }
+    without_noughts(&number.unsigned_abs().to_le_bytes()).len()
 }

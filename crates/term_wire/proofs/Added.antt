@@ -1,6 +1,6 @@
 -- Bytes added one call after another.
-use Rattle.std.proofs.Common.{◌≡◌, ap, ◌∙◌, ℕ, List, [], ◌++◌, Result, Ok, Err, cond, append_assoc, append-nil, sym}
-use Rattle.std.specs.Prelude.{is_ok}
+use Rattle.std.proofs.Common.{◌≡◌, ap, ◌∙◌, ℕ, List, [], ◌++◌, Result, Ok, Err, false, cond, append_assoc, append-nil, sym}
+use Rattle.std.specs.Prelude.{is_ok, is_err, OnOk}
 use Rattle.term_wire.specs.Appends.{Begins, Appends}
 
 pub Begins-then : (old front mid new : List ℕ) → mid ≡ old ++ front → Begins mid new → Begins old new
@@ -18,3 +18,8 @@ Appends-from_items (Err e) old new more p = ([], p ∙ sym (append-nil old))
 
 pub Appends-front : (old front mid new more : List ℕ) → mid ≡ old ++ front → new ≡ mid ++ more → new ≡ old ++ (front ++ more)
 Appends-front old front mid new more p q = q ∙ ap (λ (s : List ℕ). s ++ more) p ∙ append_assoc old front more
+
+-- what holds where a call went well
+pub held : {T E P : Type 0} (r : Result T E) → OnOk r P → is_err r ≡ false → P
+held (Ok x) p e = p
+held (Err d) p e = absurd cc

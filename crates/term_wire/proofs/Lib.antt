@@ -2,7 +2,10 @@ pub mod Added
 pub mod Again
 pub mod Fields
 pub mod Found
+pub mod Law
+pub mod Lists
 pub mod Loop
-pub mod Plain
+pub mod Numbers
+pub mod Texts
 pub mod Utf8
 pub mod Within

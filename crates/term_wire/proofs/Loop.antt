@@ -1,14 +1,17 @@
 -- Reading terms one after the other, as a loop does.
-use Rattle.std.proofs.Common.{◌≡◌, ℕ, zero, suc, ◌-◌, ◌+◌, ◌<◌, ◌≤◌, List, [], ◌∷◌, ◌++◌, Result, Ok, Err, length, map, refl, sym, ap, ◌∙◌, arith}
-use Rattle.std.proofs.lemmas.List.{map-append}
-use Rattle.term_core.specs.Tree.{Tree, Trees, no_trees, tree}
-use Rattle.term_core.specs.View.{tree_of, trees_of}
-use Rattle.term_core.specs.declared.term.Term.{Term}
+use Rattle.std.proofs.Common.{◌≡◌, ℕ, zero, suc, ◌-◌, ◌+◌, ◌<◌, ◌≤◌, List, [], ◌∷◌, ◌++◌, Result, Ok, Err, length, map, drop, get_or, ℤ, pos, refl, sym, ap, ◌∙◌, arith}
+use Rattle.std.proofs.lemmas.List.{map-append, drop_more, drop_all}
+use Rattle.term_core.specs.Tree.{Tree, int, Trees, no_trees, tree}
+use Rattle.term_core.specs.View.{tree_step, tree_of, trees_of}
+use Rattle.term_core.specs.declared.term.Term.{Term, Int}
+use Rattle.term_core.specs.declared.term.Term.TheFolds.{fold-roll-Term}
+use Rattle.term_core.specs.declared.term.Term.TheOpen.{Term-F}
+use Rattle.term_core.specs.declared.term.Term.TheViews.{rolls-Int}
 use Rattle.term_wire.specs.declared.fault.Fault.{Fault}
 use Rattle.term_wire.specs.declared.fault.Fault.TheVariants.{TooDeep}
 use Rattle.term_wire.specs.declared.fault.ReadErr.{ReadErr}
 use Rattle.term_wire.specs.declared.fault.ReadErr.TheVariants as errors
-use Rattle.term_wire.specs.Reading.{◌>>=◌, Fails, byte_at, term_at, tagged_at, items_at}
+use Rattle.term_wire.specs.Reading.{◌>>=◌, Fails, byte_at, numbers, term_at, tagged_at, items_at}
 
 -- trees in front of others
 abbrev pub onto : List Tree → Trees → Trees
@@ -19,7 +22,7 @@ onto (t ∷ front) ts = tree t (onto front ts)
 abbrev pub with_front : List Tree → Result (Trees × List ℕ) Fault → Result (Trees × List ℕ) Fault
 with_front front read = read >>= λ x. Ok (onto front x.0, x.1)
 
-pub term_at_below : (levels : ℕ) (bytes : List ℕ) → 0 < levels → term_at levels bytes ≡ (byte_at bytes >>= λ tag. tagged_at (term_at (levels - 1)) tag.0 tag.1)
+pub term_at_below : (levels : ℕ) (bytes : List ℕ) → 0 < levels → term_at levels bytes ≡ (byte_at bytes >>= λ tag. tagged_at (levels - 1) (term_at (levels - 1)) tag.0 tag.1)
 unfolding term_at
 term_at_below zero bytes h = absurd (omega arith)
 term_at_below (suc levels) bytes h = let e : suc levels - 1 ≡ levels = omega arith in rw e refl
@@ -68,3 +71,27 @@ is_done one front count i bytes total le so_far =
 -- one more term, as the vector shows it
 pub one_more : (ts us : List Term) (t : Term) → us ≡ ts ++ t ∷ [] → map tree_of us ≡ map tree_of ts ++ tree_of t ∷ []
 one_more ts us t e = ap (map tree_of) e ∙ map-append tree_of ts (t ∷ [])
+
+-- ---- numbers of a byte each
+
+numbers-drop : (bytes : List ℕ) (i : ℕ) → i < length bytes → numbers (drop i bytes) ≡ tree (int (pos (get_or bytes i 0))) (numbers (drop (i + 1) bytes))
+numbers-drop bytes i lt = ap numbers (drop_more bytes i 0 lt)
+
+pub numbers_go_on : (front : List Tree) (bytes : List ℕ) (i : ℕ) (total : Trees) → i < length bytes → onto front (numbers (drop i bytes)) ≡ total
+    → onto (front ++ int (pos (get_or bytes i 0)) ∷ []) (numbers (drop (i + 1) bytes)) ≡ total
+numbers_go_on front bytes i total lt so_far =
+    sym (onto-push front (int (pos (get_or bytes i 0))) (numbers (drop (i + 1) bytes))) ∙ ap (onto front) (sym (numbers-drop bytes i lt)) ∙ so_far
+
+pub numbers_done : (front : List Tree) (bytes : List ℕ) (i : ℕ) (total : Trees) → length bytes ≤ i → onto front (numbers (drop i bytes)) ≡ total → trees_of front ≡ total
+numbers_done front bytes i total le so_far =
+    sym (onto-none front) ∙ ap (λ (rest : List ℕ). onto front (numbers rest)) (sym (drop_all i bytes le)) ∙ so_far
+
+tree_of-Int : (n : ℤ) → tree_of (Int n) ≡ int n
+tree_of-Int n = ap tree_of (sym (rolls-Int n)) ∙ fold-roll-Term Tree tree_step (Term-F.Int n)
+
+-- one more number, as the vector shows it
+pub numbers_more : (ts us : List Term) (bytes : List ℕ) (i : ℕ) (n : ℤ) (total : Trees) → us ≡ ts ++ Int n ∷ [] → n ≡ pos (get_or bytes i 0) → i < length bytes
+    → onto (map tree_of ts) (numbers (drop i bytes)) ≡ total → onto (map tree_of us) (numbers (drop (i + 1) bytes)) ≡ total
+numbers_more ts us bytes i n total pushed is lt so_far =
+    let last : map tree_of us ≡ map tree_of ts ++ int (pos (get_or bytes i 0)) ∷ [] = one_more ts us (Int n) pushed ∙ ap (λ (t : Tree). map tree_of ts ++ t ∷ []) (tree_of-Int n ∙ ap int is) in
+    ap (λ (front : List Tree). onto front (numbers (drop (i + 1) bytes))) last ∙ numbers_go_on (map tree_of ts) bytes i total lt so_far

@@ -11,12 +11,14 @@ use Rattle.term_wire.specs.declared.error.WireErr.TheVariants.{Bad, Outside, Wid
 abbrev pub left_of : Fault → ℕ
 left_of (fault.Bad left) = left
 left_of (fault.Outside tag left) = left
+left_of (fault.WideInt left) = left
 left_of (fault.TooDeep left) = left
 
 -- the refusal at so many bytes before the end
 abbrev pub placed : ℕ → Fault → WireErr
 placed end (fault.Bad left) = Bad (end - left)
 placed end (fault.Outside tag left) = Outside tag (end - left)
+placed end (fault.WideInt left) = WideInt (end - left)
 placed end (fault.TooDeep left) = TooDeep (end - left)
 
 abbrev pub with_place : ℕ → Result Tree Fault → Result Tree WireErr
@@ -35,7 +37,3 @@ Refuses e read = read ≡ Err e
 abbrev pub Answers : {X Y : Type 0} → (X → Y) → Result X WireErr → Result Y WireErr → Type 0
 Answers view (Ok x) read = read ≡ Ok (view x)
 Answers view (Err e) read = Refuses e read
-
-abbrev pub IsWideInt : WireErr → Type 0
-IsWideInt (WideInt place) = Unit {0}
-IsWideInt e = ⊥

@@ -1,58 +1,69 @@
--- Which trees are plain, and the one text of each of them.
-use Rattle.std.specs.Prelude.{◌≡◌, ℕ, ◌+◌, ◌^◌, ◌<◌, ◌≤◌, Bool, true, false, ◌&&◌, if◌then◌else◌, nat_lt, nat_le, ℤ, pos, negsuc, List, [], ◌∷◌, ◌++◌, length, FitsSigned}
-use Rattle.std.specs.Int.{w32, cast_unsigned, to_be_bytes}
-use Rattle.std.specs.Str.{IsUtf8}
-use Rattle.term_core.specs.Tree.{Tree, int, atom, tuple, list, bin, Trees, no_trees, tree, count}
+-- Which bytes spell a tree, in any of the forms that a term may have. Source: "External Term Format" in the user's guide of
+-- Erlang's run-time system.
+use Rattle.std.specs.Prelude.{◌≡◌, ℕ, ◌+◌, ◌*◌, ◌^◌, ◌<◌, ◌≤◌, ◌==◌, if◌then◌else◌, ℤ, pos, neg_ℤ, List, [], ◌∷◌, ◌++◌, length, All, ◌⊎◌, IsTrue}
+use Rattle.std.specs.Int.{Width, w8, w16, w32, byte_len, cast_signed, to_be_bytes}
+use Rattle.std.specs.Str.{encode_utf8_all}
+use Rattle.term_core.specs.Tree.{Tree, int, atom, tuple, list, bin, Trees, no_trees, tree, count, depth}
+use Rattle.term_core.specs.Written.{all_bytes, bytes_of}
+use Rattle.term_core.specs.Kept.{IsKept}
 
--- a number from 0 to 255
-abbrev pub fits_byte : ℤ → Bool
-fits_byte (pos n) = nat_lt n 256
-fits_byte (negsuc n) = false
+-- behind a tag a number in so many bytes, the highest first, and then the rest
+abbrev pub Tagged : ℕ → Width → ℕ → List ℕ → List ℕ → Type 0
+Tagged tag w n rest bytes = (n < 256 ^ byte_len w) × (bytes ≡ tag ∷ (to_be_bytes w n ++ rest))
 
-abbrev pub is_byte : Tree → Bool
-is_byte (int n) = fits_byte n
-is_byte t = false
+abbrev pub AreBytes : List ℕ → Type 0
+AreBytes bytes = All (λ byte. byte < 256) bytes
 
-abbrev pub all_bytes : Trees → Bool
-all_bytes no_trees = true
-all_bytes (tree t ts) = is_byte t && all_bytes ts
+-- the number of these bytes, the lowest first
+abbrev pub low_first : List ℕ → ℕ
+low_first [] = 0
+low_first (byte ∷ bytes) = byte + 256 * low_first bytes
 
--- A list of 1 to 65,535 numbers from 0 to 255 has another spelling.
-abbrev pub is_byte_list : Trees → Bool
-is_byte_list ts = nat_le (count ts) 65535 && all_bytes ts
+-- the sign 0 leaves a number as it is, and any other makes it negative
+abbrev pub signed : ℕ → ℕ → ℤ
+signed sign n = if sign == 0 then pos n else neg_ℤ (pos n)
 
-abbrev mutual
-  -- what has a spelling here
-  pub IsPlain : Tree → Type 0
-  IsPlain (int n) = FitsSigned w32 n
-  IsPlain (atom a) = IsUtf8 a × (length a ≤ 255)
-  IsPlain (tuple ts) = (count ts ≤ 255) × ArePlain ts
-  IsPlain (list no_trees) = Unit {0}
-  IsPlain (list (tree t ts)) = (count ts + 1 < 2 ^ 32) × (is_byte_list (tree t ts) ≡ false) × (IsPlain t × ArePlain ts)
-  IsPlain (bin b) = ⊥
-
-  pub ArePlain : Trees → Type 0
-  ArePlain no_trees = Unit {0}
-  ArePlain (tree t ts) = IsPlain t × ArePlain ts
+-- behind tag 110 or 111 the count of the bytes, a sign of 0 or 1, and the bytes, the lowest first
+abbrev pub SpellsWide : ℤ → List ℕ → Type 0
+SpellsWide n bytes =
+    (sign : ℕ) × (digits : List ℕ) × (sign ≤ 1) × AreBytes digits × (n ≡ signed sign (low_first digits))
+    × (Tagged 110 w8 (length digits) (sign ∷ digits) bytes ⊎ Tagged 111 w32 (length digits) (sign ∷ digits) bytes)
 
 -- one byte behind tag 97, or four in two's complement behind tag 98
-abbrev pub number_spelling : ℤ → List ℕ
-number_spelling n = if fits_byte n then 97 ∷ cast_unsigned w32 n ∷ [] else 98 ∷ to_be_bytes w32 (cast_unsigned w32 n)
+abbrev pub SpellsNumber : ℤ → List ℕ → Type 0
+SpellsNumber n bytes =
+    ((m : ℕ) × (n ≡ pos m) × Tagged 97 w8 m [] bytes)
+    ⊎ (((m : ℕ) × (n ≡ cast_signed w32 m) × Tagged 98 w32 m [] bytes)
+    ⊎ SpellsWide n bytes)
+
+-- as Latin-1 behind tag 115 or 100, where each byte is a character
+abbrev pub SpellsLatin : List ℕ → List ℕ → Type 0
+SpellsLatin a bytes =
+    (latin : List ℕ) × AreBytes latin × (a ≡ encode_utf8_all latin)
+    × (Tagged 115 w8 (length latin) latin bytes ⊎ Tagged 100 w16 (length latin) latin bytes)
+
+-- as UTF-8 behind tag 119 or 118
+abbrev pub SpellsAtom : List ℕ → List ℕ → Type 0
+SpellsAtom a bytes = Tagged 119 w8 (length a) a bytes ⊎ (Tagged 118 w16 (length a) a bytes ⊎ SpellsLatin a bytes)
 
 abbrev mutual
-  pub spelling : Tree → List ℕ
-  spelling (int n) = number_spelling n
-  spelling (atom a) = 119 ∷ length a ∷ a
-  spelling (tuple ts) = 104 ∷ count ts ∷ spellings ts
-  spelling (list no_trees) = 106 ∷ []
-  spelling (list (tree t ts)) = 108 ∷ (to_be_bytes w32 (count ts + 1) ++ (spelling t ++ spellings ts) ++ 106 ∷ [])
-  spelling (bin b) = []
+  -- Tuples have tag 104 or 105. A list has tag 106 where it is empty, 107 where its elements are numbers of a byte each, and
+  -- 108 in front of any elements and byte 106.
+  pub Spells : Tree → List ℕ → Type 0
+  Spells (int n) bytes = SpellsNumber n bytes
+  Spells (atom a) bytes = SpellsAtom a bytes
+  Spells (tuple ts) bytes = (inside : List ℕ) × AllSpell ts inside × (Tagged 104 w8 (count ts) inside bytes ⊎ Tagged 105 w32 (count ts) inside bytes)
+  Spells (list ts) bytes =
+      ((ts ≡ no_trees) × (bytes ≡ 106 ∷ []))
+      ⊎ ((IsTrue (all_bytes ts) × Tagged 107 w16 (count ts) (bytes_of ts) bytes)
+      ⊎ ((inside : List ℕ) × AllSpell ts inside × Tagged 108 w32 (count ts) (inside ++ 106 ∷ []) bytes))
+  Spells (bin b) bytes = Tagged 109 w32 (length b) b bytes
 
   -- one after another
-  pub spellings : Trees → List ℕ
-  spellings no_trees = []
-  spellings (tree t ts) = spelling t ++ spellings ts
+  pub AllSpell : Trees → List ℕ → Type 0
+  AllSpell no_trees bytes = bytes ≡ []
+  AllSpell (tree t ts) bytes = (front : List ℕ) × (back : List ℕ) × Spells t front × AllSpell ts back × (bytes ≡ front ++ back)
 
--- the whole text
-abbrev pub canon : Tree → List ℕ
-canon t = 131 ∷ spelling t
+-- The whole text: byte 131, and a spelling of a tree that a term can stand for, of at most 128 levels.
+abbrev pub IsText : List ℕ → Tree → Type 0
+IsText bytes t = (spelling : List ℕ) × (bytes ≡ 131 ∷ spelling) × Spells t spelling × IsKept t × (depth t ≤ 128)

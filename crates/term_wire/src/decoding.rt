@@ -1,10 +1,12 @@
 //! The term of a text.
 
-ghost use Rattle.std.specs.Prelude.{◌≡◌, ◌≤◌, IfOk, IfErr};
+ghost use Rattle.std.specs.Prelude.{◌≡◌, ◌≤◌, ◌^◌, ℕ, List, length, IfOk, Ok};
 ghost use Rattle.term_core.specs.Tree.{Tree, depth};
 ghost use Rattle.term_core.specs.View.{tree_of};
-ghost use Rattle.term_wire.specs.Decoding.{Answers, IsWideInt, left_of, placed, read};
-ghost use Rattle.term_wire.specs.Spelling.{IsPlain, canon};
+ghost use Rattle.term_core.specs.Written.{canon};
+ghost use Rattle.term_core.specs.Kept.{IsKept};
+ghost use Rattle.term_wire.specs.Decoding.{Answers, left_of, placed, read};
+ghost use Rattle.term_wire.specs.Spelling.{IsText};
 
 use crate::error::WireErr;
 use crate::fault::{Fault, ReadErr};
@@ -12,22 +14,26 @@ use crate::reading::text_of;
 use std::alloc::Global;
 use term_core::Term;
 
-/// The term that all of the bytes are the text of.
+/// The term that all of the bytes are a text of.
 pub fn decode(alloc: Global, bytes: &[u8]) -> Result<Term, WireErr>
-    // What is read is the text of a plain tree of at most 128 levels.
-    ensures found { IfOk result (λ term. IsPlain (tree_of term) × (depth (tree_of term) ≤ 128) × (bytes.now ≡ canon (tree_of term))) }
-    // The text of such a tree is read, unless memory runs out.
-    ensures only { (t : Tree) → IsPlain t → depth t ≤ 128 → bytes.now ≡ canon t → Answers tree_of result (Ok t) }
+    // The bytes are a text of the term that is read.
+    ensures found { IfOk result (λ term. IsText bytes.now (tree_of term)) }
+    // Whatever the bytes are a text of is read, unless memory runs out.
+    ensures only { (t : Tree) → IsText bytes.now t → Answers tree_of result (Ok t) }
     // Which refusal it is, and at which place.
     ensures exact { Answers tree_of result (read bytes.now) }
-    ensures narrow { IfErr result (λ error. IsWideInt error → ⊥) }
 {
     read_all(alloc, bytes)
 }
 
-/// No text is that of two plain trees.
+/// No text is that of two trees.
 pub fn one_tree()
-    ensures { (s t : Tree) → IsPlain s → IsPlain t → canon s ≡ canon t → s ≡ t }
+    ensures { (bytes : List ℕ) (s t : Tree) → IsText bytes s → IsText bytes t → s ≡ t }
+{}
+
+/// What is written of a tree is a text of it, where a term can stand for the tree and it is neither too deep nor too long.
+pub fn written_text()
+    ensures { (t : Tree) → IsKept t → depth t ≤ 128 → length (canon t) ≤ 2 ^ 28 → IsText (canon t) t }
 {}
 
 fn read_all(alloc: Global, bytes: &[u8]) -> Result<Term, WireErr>
@@ -48,6 +54,7 @@ fn place(fault: Fault, end: usize) -> WireErr
     match fault {
         Fault::Bad(left) => WireErr::Bad(end - left),
         Fault::Outside(tag, left) => WireErr::Outside(tag, end - left),
+        Fault::WideInt(left) => WireErr::WideInt(end - left),
         Fault::TooDeep(left) => WireErr::TooDeep(end - left),
     }
 }

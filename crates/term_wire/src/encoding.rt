@@ -3,27 +3,29 @@
 ghost use Rattle.std.specs.Prelude.{◌≡◌, ◌≤◌, ◌<◌, ◌^◌, ◌↔◌, ◌++◌, length, OnOk, OnErr};
 ghost use Rattle.term_core.specs.Tree.{depth};
 ghost use Rattle.term_core.specs.View.{tree_of};
+ghost use Rattle.term_core.specs.Written.{canon};
+ghost use Rattle.term_core.specs.Kept.{IsKept};
 ghost use Rattle.term_wire.specs.Appends.{Appends};
-ghost use Rattle.term_wire.specs.Spelling.{IsPlain, canon};
+ghost use Rattle.term_wire.specs.Spelling.{IsText};
 
 use crate::error::EncodeErr;
-use crate::length::room_after;
 use crate::tag;
 use crate::write::put;
 use std::alloc::AllocError;
-use term_core::Term;
+use term_core::{Term, wire_len};
 
 /// The levels of the deepest term that has a text.
 pub const MOST_LEVELS: u32 = 128;
 
 /// The bytes of the longest text.
-const MOST_BYTES: u32 = 1 << 28;
+const MOST_BYTES: u64 = 1 << 28;
 
 /// Adds the text of a term at the end of `out`. An error leaves `out` as it was.
 pub fn encode(term: &Term, out: &mut Vec<u8>) -> Result<(), EncodeErr>
-    requires { IsPlain (tree_of term.now) }
     ensures ok { OnOk result (out.new.items ≡ out.old.items ++ canon (tree_of term.now)) }
     ensures fits { OnOk result ((depth (tree_of term.now) ≤ 128) × (length (canon (tree_of term.now)) ≤ 2 ^ 28)) }
+    // What is written is a text of the term.
+    ensures spells { OnOk result (IsText (canon (tree_of term.now)) (tree_of term.now)) }
     ensures err { OnErr result (out.new.items ≡ out.old.items) }
 
     // Only a deep term is too deep, and of the others only a long one is too long.
@@ -33,7 +35,7 @@ pub fn encode(term: &Term, out: &mut Vec<u8>) -> Result<(), EncodeErr>
     if !term.depth_within(MOST_LEVELS) {
         return Err(EncodeErr::TooDeep);
     }
-    if room_after(term, MOST_BYTES - 1).is_none() {
+    if wire_len(term) > MOST_BYTES {
         return Err(EncodeErr::TooLong);
     }
     let before = out.len();
@@ -46,8 +48,9 @@ pub fn encode(term: &Term, out: &mut Vec<u8>) -> Result<(), EncodeErr>
 
 /// The same where the text is neither too deep nor too long.
 fn put_text(term: &Term, out: &mut Vec<u8>) -> Result<(), AllocError>
-    requires { IsPlain (tree_of term.now) }
-    ensures { Appends result out.old.items out.new.items (canon (tree_of term.now)) }
+    requires { length (canon (tree_of term.now)) ≤ 2 ^ 28 }
+    ensures adds { Appends result out.old.items out.new.items (canon (tree_of term.now)) }
+    ensures kept { OnOk result (IsKept (tree_of term.now)) }
 {
     out.push(tag::VERSION)?;
     put(term, out)

@@ -18,7 +18,7 @@ pub enum WireErr {
     Bad(usize),
     /// This tag, at this place, is of a term that is not kept here.
     Outside(u8, usize),
-    /// The number at this place does not fit 128 bits. No number of the forms read so far is so wide.
+    /// The number at this place does not fit 128 bits.
     WideInt(usize),
     /// The term at this place is on level 129.
     TooDeep(usize),

@@ -13,6 +13,8 @@ pub enum Fault {
     Bad(usize),
     /// The tag of a term that is not kept here.
     Outside(u8, usize),
+    /// A number of more than 128 bits.
+    WideInt(usize),
     /// A term on a level too many.
     TooDeep(usize),
 }

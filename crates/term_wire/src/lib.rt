@@ -1,8 +1,8 @@
 //! Terms as bytes, in Erlang's external term format.
 //!
-//! A text is byte 131 and then the spelling of one term. Of the forms that the format has for a term,
-//! this crate writes one: `canon` of `specs/Spelling.antt` is the text of a term's tree, and `IsPlain`
-//! says which trees have one.
+//! A text is byte 131 and then the spelling of one term. The format has more than one spelling of a
+//! term: `IsText` of `specs/Spelling.antt` says which bytes are a text of which tree. What is written
+//! is one of them, `canon` of term_core.
 #![tactic(auto)]
 
 mod decoding;
@@ -10,14 +10,15 @@ mod encoding;
 mod error;
 mod fault;
 mod field;
-mod length;
+mod leaf;
 mod reading;
 mod tag;
 mod write;
 
-pub use decoding::{decode, one_tree};
+pub use decoding::{decode, one_tree, written_text};
 pub use encoding::encode;
 pub use error::{EncodeErr, WireErr};
+pub use term_core::wire_len;
 
 #[cfg(test)]
 mod tests;

@@ -2,15 +2,12 @@
 
 ghost use Rattle.std.specs.Prelude.{◌≡◌};
 ghost use Rattle.term_core.specs.View.{tree_of, forest_of};
-ghost use Rattle.term_wire.specs.Reading.{Gives, term_at, tagged_at, tuple_at, list_at, items_at, text_at};
-ghost use Rattle.term_wire.specs.Spelling.{is_byte, all_bytes, is_byte_list};
-ghost use Rattle.term_core.specs.Tree.{Trees};
+ghost use Rattle.term_wire.specs.Reading.{Gives, width_of, term_at, tagged_at, tuple_at, list_at, items_at, text_at};
 
 use crate::encoding::MOST_LEVELS;
 use crate::fault::{Fault, ReadErr};
-use crate::field::{
-    atom_of, bad, byte_of, end_of, integer_of, number_of, other_of, small_of, version_of,
-};
+use crate::field::{CountBytes, bad, byte_of, count_of, end_of, four_of, version_of};
+use crate::leaf::{leaf_of, numbers_of};
 use crate::tag;
 use sqlite_items::Items;
 use std::alloc::Global;
@@ -46,26 +43,30 @@ fn term_of(alloc: Global, levels: u32, bytes: &[u8]) -> Result<(Term, &[u8]), Re
 #[cycle(term)]
 #[tactic(auto, unfolding(crate::specs::Reading::tagged_at))]
 fn tagged_of(alloc: Global, levels: u32, tag: u8, bytes: &[u8]) -> Result<(Term, &[u8]), ReadErr>
-    ensures { Gives (λ x. (tree_of x.0, x.1.now)) result (tagged_at (term_at levels) tag bytes.now) }
+    ensures { Gives (λ x. (tree_of x.0, x.1.now)) result (tagged_at levels (term_at levels) tag bytes.now) }
 {
     match tag {
-        tag::SMALL_INTEGER => small_of(bytes),
-        tag::INTEGER => integer_of(bytes),
-        tag::SMALL_ATOM_UTF8 => atom_of(alloc, bytes),
-        tag::SMALL_TUPLE => tuple_of(alloc, levels, bytes),
+        tag::SMALL_TUPLE => tuple_of(alloc, levels, CountBytes::One, bytes),
+        tag::LARGE_TUPLE => tuple_of(alloc, levels, CountBytes::Four, bytes),
         tag::NIL => Ok((Term::List(Items::new(alloc)), bytes)),
+        tag::STRING => numbers_of(alloc, levels, bytes),
         tag::LIST => list_of(alloc, levels, bytes),
-        _ => other_of(tag, bytes),
+        _ => leaf_of(alloc, tag, bytes),
     }
 }
 
 #[cycle(term)]
 #[tactic(auto, unfolding(crate::specs::Reading::tuple_at))]
-fn tuple_of(alloc: Global, levels: u32, bytes: &[u8]) -> Result<(Term, &[u8]), ReadErr>
-    ensures { Gives (λ x. (tree_of x.0, x.1.now)) result (tuple_at (term_at levels) bytes.now) }
+fn tuple_of(
+    alloc: Global,
+    levels: u32,
+    size: CountBytes,
+    bytes: &[u8],
+) -> Result<(Term, &[u8]), ReadErr>
+    ensures { Gives (λ x. (tree_of x.0, x.1.now)) result (tuple_at (term_at levels) (width_of size) bytes.now) }
 {
-    let (count, rest) = byte_of(bytes)?;
-    let (items, rest) = items_of(alloc, levels, u32::from(count), rest)?;
+    let (count, rest) = count_of(size, bytes)?;
+    let (items, rest) = items_of(alloc, levels, count, rest)?;
     Ok((Term::Tuple(items), rest))
 }
 
@@ -74,12 +75,9 @@ fn tuple_of(alloc: Global, levels: u32, bytes: &[u8]) -> Result<(Term, &[u8]), R
 fn list_of(alloc: Global, levels: u32, bytes: &[u8]) -> Result<(Term, &[u8]), ReadErr>
     ensures { Gives (λ x. (tree_of x.0, x.1.now)) result (list_at (term_at levels) bytes.now) }
 {
-    let (count, rest) = number_of(bytes)?;
+    let (count, rest) = four_of(bytes)?;
     let (items, rest) = items_of(alloc, levels, count, rest)?;
     let rest = end_of(rest)?;
-    if spells_bytes(items.as_slice()) {
-        return Err(bad(bytes.len() + 1));
-    }
     Ok((Term::List(items), rest))
 }
 
@@ -101,32 +99,4 @@ fn items_of(
         rest = after;
     }
     Ok((items, rest))
-}
-
-/// Whether a list of these elements has another spelling.
-fn spells_bytes(items: &[Term]) -> bool
-    ensures { result ≡ is_byte_list (forest_of items.now) }
-{
-    items.len() <= 65535 && are_bytes(items)
-}
-
-fn are_bytes(items: &[Term]) -> bool
-    ensures { result ≡ all_bytes (forest_of items.now) }
-{
-    for item in items {
-        if !is_small(item) {
-            return false;
-        }
-    }
-    true
-}
-
-/// A number from 0 to 255.
-fn is_small(term: &Term) -> bool
-    ensures { result ≡ is_byte (tree_of term.now) }
-{
-    match term {
-        Term::Int(number) => (0..256).contains(number),
-        Term::Atom(_) | Term::Tuple(_) | Term::List(_) | Term::Bin(_) => false,
-    }
 }

@@ -1,4 +1,4 @@
-use Rattle.disk_logs.proofs.Unique.{closed_not_bad, one_place, closed_or_bad}
+use Rattle.disk_logs.proofs.ClosedLogs.{closed_not_bad, one_place, closed_or_bad}
 use Rattle.disk_logs.proofs.laws.place_law.Goals as goal
 
 pub returns-clause-either : goal.returns-clause-either

@@ -1,9 +1,9 @@
 use Rattle.std.proofs.Common.{◌∙◌, ◌++◌, ◌+◌, ◌<◌, ℕ, List, drop, length, sym, ap, subst, arith}
 use Rattle.file_trait.specs.DiskModel.{reads}
-use Rattle.disk_logs.specs.Items.{wire}
-use Rattle.disk_logs.specs.Scan.{StartsNoItem}
+use Rattle.log_items.specs.Items.{wire}
+use Rattle.log_items.specs.Scan.{StartsNoItem}
 use Rattle.disk_logs.proofs.ChunkLemmas.{len_told, not_short, chunk_full, chunk_ended, piece_taken, end_is, end_items, end_told}
-use Rattle.disk_logs.proofs.ScanLemmas.{nothing_starts_none}
+use Rattle.log_items.proofs.ItemLemmas.{nothing_starts_none}
 use Rattle.disk_logs.proofs.reading.chunk.Goals as goal
 
 pub pieces-init : goal.pieces-init
@@ -31,7 +31,7 @@ returns-then-len-most-clause-items g c file all n told here place =
     let so_far = c.pieces.invariant in
     chunk_full file c.read_piece.new.bytes.items (drop c.in_ok-taken.taken c.read_piece.new.bytes.items) all c.take.new.self.items n c.args.from c.args.most place
     (c.read_piece.ensures.part file told (ap (λ p. reads p c.args.name) (so_far.same told) ∙ here) (so_far.part file told here))
-    (c.in_ok-taken.ensures.counted c.args.from so_far.counted).small
+    (c.in_ok-taken.ensures.counted c.args.from so_far.counted).fit
     (piece_taken c.pieces.bytes.items c.read_piece.new.bytes.items c.deref.result.now c.pieces.found.items c.take.new.self.items c.pieces.taken c.in_ok-taken.taken
     (omega (arith, so_far.taken, c.pieces.bytes.ok.0)) c.read_piece.ensures.grows c.deref.ensures.value so_far.whole c.in_ok-taken.ensures.same)
     (omega (arith, c.if-len-most.true, c.len-in-pieces.ensures))
@@ -60,7 +60,7 @@ returns-clause-items g c file all n told here place =
     let is = c.in_ok-read_piece.ensures.end file told (ap (λ p. reads p c.args.name) (so_far.same told) ∙ here) (so_far.part file told here) c.if-branch.false in
     end_items c.end.result c.pieces.found _ c.end.ensures.ok
     (chunk_ended file c.pieces.bytes.items (drop c.pieces.taken c.pieces.bytes.items) all c.pieces.found.items n c.args.from c.args.most place
-    (sym {A = List ℕ} (c.in_ok-read_piece.ensures.none c.if-branch.false) ∙ is) so_far.counted.small so_far.whole so_far.none so_far.fewer)
+    (sym {A = List ℕ} (c.in_ok-read_piece.ensures.none c.if-branch.false) ∙ is) so_far.counted.fit so_far.whole so_far.none so_far.fewer)
 
 pub returns-clause-told : goal.returns-clause-told
 returns-clause-told g c told =
@@ -70,4 +70,4 @@ returns-clause-told g c told =
     end_told c.end.result c.deref-2.result.now (drop c.pieces.taken c.pieces.bytes.items) c.pieces.taken
     (ap (λ z. drop c.pieces.taken z) (c.deref-2.ensures.value ∙ c.in_ok-read_piece.ensures.none c.if-branch.false)) c.end.ensures.whole
     (end_is file c.pieces.bytes.items (drop c.pieces.taken c.pieces.bytes.items) all c.pieces.found.items n c.args.from place
-    (sym {A = List ℕ} (c.in_ok-read_piece.ensures.none c.if-branch.false) ∙ is) so_far.counted.small so_far.whole so_far.none)
+    (sym {A = List ℕ} (c.in_ok-read_piece.ensures.none c.if-branch.false) ∙ is) so_far.counted.fit so_far.whole so_far.none)

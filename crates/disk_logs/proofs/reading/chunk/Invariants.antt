@@ -1,8 +1,8 @@
 use Rattle.std.proofs.Common.{◌≡◌, ◌+◌, ◌-◌, ◌<◌, ◌≤◌, ◌++◌, ℕ, List, false, length, drop, vec_len, Some, IsTrue}
 use Rattle.file_trait.specs.DiskModel.{reads}
 use Rattle.disk_logs.specs.Chunks.{AreCounted}
-use Rattle.disk_logs.specs.Items.{wire}
-use Rattle.disk_logs.specs.Scan.{StartsWith, StartsNoItem}
+use Rattle.log_items.specs.Items.{wire}
+use Rattle.log_items.specs.Scan.{StartsWith, StartsNoItem}
 use Rattle.disk_logs.proofs.reading.chunk.Given as goal
 
 abbrev pub invariant-pieces : goal.invariant-pieces

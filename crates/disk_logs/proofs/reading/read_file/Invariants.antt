@@ -1,6 +1,6 @@
 use Rattle.std.proofs.Common.{◌≡◌, ◌≤◌, ◌-◌, ℕ, List, IsTrue, vec_len, Some}
 use Rattle.file_trait.specs.DiskModel.{reads}
-use Rattle.disk_logs.specs.Scan.{StartsWith}
+use Rattle.log_items.specs.Scan.{StartsWith}
 use Rattle.disk_logs.proofs.reading.read_file.Given as goal
 
 abbrev pub invariant-pieces : goal.invariant-pieces

@@ -7,6 +7,9 @@ use Rattle.mn_run.proofs.Runs.{start_ends, print_ends}
 use Rattle.mn_run.specs.Runs.{EndsDamaged}
 use Rattle.mn_run.proofs.serving.begin.Goals as goal
 
+pub returns-in-Ok-print-clause-began : goal.returns-in-Ok-print-clause-began
+returns-in-Ok-print-clause-began g c told_out told base stands = record { shows = c.in-Ok.ensures.started told base stands; printed = c.in-Ok-print.ensures.all told_out }
+
 pub returns-in-Err-clause-began : goal.returns-in-Err-clause-began
 returns-in-Err-clause-began g c told_out told base stands =
     start_ends base c.in-Err.error c.ended.result (reads (g.D.Disk.past c.args.disk.now)) (reads (g.D.Disk.past c.start.new.disk)) (g.K.Sink.written c.args.out.now) c.ended.ensures stands

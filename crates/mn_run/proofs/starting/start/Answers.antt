@@ -1,15 +1,17 @@
-use Rattle.std.proofs.Common.{◌≡◌, Err, map, sym, ap, ◌∙◌, subst}
+use Rattle.std.proofs.Common.{◌≡◌, ◌⊎◌, Err, Some, [], ◌∷◌, true, map, rules, sym, ap, ◌∙◌, subst}
 use Rattle.term_core.specs.View.{tree_of}
 use Rattle.file_trait.specs.DiskModel.{Past, reads}
 use Rattle.disk_logs.specs.Logs.{Handle, Finds}
-use Rattle.mn_run.specs.Files.{NoMeaning, Keeps, Shows}
+use Rattle.log_items.specs.Items.{log_bytes}
+use Rattle.mn_run.specs.Commits.{head_text}
+use Rattle.mn_run.specs.Files.{NoMeaning, Keeps, Shows, latest}
 use Rattle.mn_run.specs.Loads.{Loads, start_error}
 use Rattle.mn_run.specs.Machine.{down, booted}
 use Rattle.mn_run.specs.Steps.{StartsDamaged}
 use Rattle.mn_run.specs.declared.table.Table.{Table}
 use Rattle.mn_run.specs.declared.starting.StartErr.TheVariants.{Damaged}
 use Rattle.mn_run.proofs.Acts.{new_stands}
-use Rattle.mn_run.proofs.Loading.{handle_is, loaded_shows, loaded_means, stands_kept, starts_damaged, resume_damaged}
+use Rattle.mn_run.proofs.Loading.{handle_is, loaded_shows, loaded_means, no_writes, new_shows, new_failed, stands_kept, starts_damaged, resume_damaged}
 use Rattle.mn_run.proofs.starting.start.Goals as goal
 
 pub returns-in-Ok-clause-started : goal.returns-in-Ok-clause-started
@@ -38,6 +40,24 @@ pub returns-in-Err-load-clause-meaning : goal.returns-in-Err-load-clause-meaning
 returns-in-Err-load-clause-meaning g c told at none =
     starts_damaged (reads (g.D.Disk.past c.args.disk.now)) at c.in-Err-load.error
     (λ name place is. let bad = c.in-Err-load.ensures.damaged told name place (ap (λ e. Err e) is) in (bad.0, subst (λ p. NoMeaning (reads p) place) (c.in-Ok-Some.ensures.same told) bad.1)) none
+
+pub returns-in-Ok-new_log-clause-started : goal.returns-in-Ok-new_log-clause-started
+returns-in-Ok-new_log-clause-started g c told base stands =
+    let old : Past = g.D.Disk.past c.args.disk.now in
+    let new : Past = g.D.Disk.past c.new_log.new.disk in
+    let log = c.new-in-Ok-new_log-2.result.log in
+    let table = map tree_of c.new-in-Ok-new_log-2.result.table.rows.items in
+    let none : table ≡ [] = search rules in
+    let was = no_writes (reads old) base c.in-Ok-None.field-0 c.latest.result c.latest.ensures.value c.in-Ok-None.field-0-is (c.in-Ok-None.ensures.found told) stands in
+    subst (λ b. Shows table log new (booted (down b))) (sym was.1) (new_shows new log table none (c.new-in-Ok-new_log-2.ensures.log ∙ c.in-Ok-new_log.ensures.log) (c.in-Ok-new_log.ensures.file told))
+
+pub returns-in-Err-new_log-clause-failed : goal.returns-in-Err-new_log-clause-failed
+returns-in-Err-new_log-clause-failed g c told base stands =
+    let old : Past = g.D.Disk.past c.args.disk.now in
+    let new : Past = g.D.Disk.past c.new_log.new.disk in
+    let was = no_writes (reads old) base c.in-Ok-None.field-0 c.latest.result c.latest.ensures.value c.in-Ok-None.field-0-is (c.in-Ok-None.ensures.found told) stands in
+    let left = subst (λ p. (reads new latest ≡ reads p latest) ⊎ (reads new latest ≡ Some (log_bytes true (head_text ∷ [])))) (c.in-Ok-None.ensures.same told) (c.in-Err-new_log.ensures.left told) in
+    new_failed (reads old) (reads new) base was left
 
 pub returns-in-Ok-new_log-clause-stands : goal.returns-in-Ok-new_log-clause-stands
 returns-in-Ok-new_log-clause-stands g c told =

@@ -1,7 +1,7 @@
-use Rattle.std.proofs.Common.{◌≡◌, ◌≤◌, ◌-◌, ◌++◌, List, [], length, drop, map}
+use Rattle.std.proofs.Common.{◌≡◌, ◌≤◌, ◌-◌, List, [], length, take, map}
 use Rattle.term_core.specs.Tree.{Tree}
 use Rattle.term_core.specs.View.{tree_of}
-use Rattle.mn_run.specs.Commits.{AreRows, commits_of}
+use Rattle.mn_run.specs.Commits.{AreRows, AreItemsOf}
 use Rattle.mn_run.specs.Tables.{records_of, written}
 use Rattle.mn_run.proofs.starting.table_of.Given as goal
 
@@ -9,7 +9,7 @@ abbrev pub invariant-items : goal.invariant-items
 invariant-items l = record {
   rows : List Tree;
   good : AreRows rows;
-  is : l.items ≡ commits_of rows ++ drop l.number l.items;
+  commits : AreItemsOf rows (take l.number l.items);
   same : (key : Tree) → records_of key (map tree_of l.table.rows.items) ≡ records_of key (written rows []);
   within : l.number ≤ length l.items;
 }

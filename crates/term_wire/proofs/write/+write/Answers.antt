@@ -1,40 +1,44 @@
 use denote.Param.Weighed.{at_most}
-use Rattle.std.proofs.Common.{rules, arith, ◌<◌, ◌≤◌, ◌^◌, ◌∷◌, [], length}
+use Rattle.std.proofs.Common.{rules, arith, sym, ◌<◌, length}
 use Rattle.std.proofs.lemmas.Bool.Decides.{nat_tests}
 use Rattle.std.proofs.lemmas.Result.{err_from_is_err_and}
 use Rattle.term_core.specs.View.{forest_of}
-use Rattle.term_core.proofs.Forests.{count_forest_of}
-use Rattle.term_wire.specs.Spelling.{spellings}
-use Rattle.term_wire.proofs.Added.{Begins-then, Appends-front, Appends-then, Appends-from_items}
-use Rattle.term_wire.proofs.Plain.{plain_at, tuple_size, list_size, list_spelling}
+use Rattle.term_wire.proofs.Added.{Begins-then, Appends-then}
+use Rattle.term_wire.proofs.Lists.{string_fits, string_written, list_written, list_length, tuple_written, tuple_length, length-le-written, bytes_kept, on_ok}
 use Rattle.term_wire.proofs.write.+write.Goals as goal
 
 pub put_tuple-overflow_cast-items : goal.put_tuple-overflow_cast-items
-put_tuple-overflow_cast-items t c =
-    let size : length c.args.items.now ≤ 255 = tuple_size c.args.items.now c.requires in
-    search (rules, size)
+put_tuple-overflow_cast-items t c = record { fits = omega (arith, c.requires, tuple_length c.args.items.now, length-le-written c.args.items.now) }
 
-pub put_tuple-returns : goal.put_tuple-returns
-put_tuple-returns t c =
-    rw (count_forest_of c.args.items.now) (Appends-then c.put_all.result _ _ _ _ _ c.in_ok-extend_from_slice.ensures.items c.put_all.ensures)
+pub put_tuple-returns-clause-adds : goal.put_tuple-returns-clause-adds
+put_tuple-returns-clause-adds t c =
+    rw (tuple_written c.args.items.now) (Appends-then c.put_all.result _ _ _ _ _ c.in_ok-put_tuple_front.ensures c.put_all.ensures.adds)
 
-pub put_all-put-requires : goal.put_all-put-requires
-put_all-put-requires t c = (search (rules, at_most), plain_at c.args.items.now c.loop-item.item-index _ c.requires c.loop-item-test.true c.item-item.is)
-
-pub put_all-returns-in_err-put : goal.put_all-returns-in_err-put
-put_all-returns-in_err-put t c =
+pub put_all-returns-in_err-put-clause-adds : goal.put_all-returns-in_err-put-clause-adds
+put_all-returns-in_err-put-clause-adds t c =
     let p = err_from_is_err_and c.from_residual.result c.from_residual.ensures.1 in
-    rw p.1 (Begins-then _ c.loop-item.invariant.0 _ _ c.loop-item.invariant.1 c.in_err-put.ensures)
+    rw p.1 (Begins-then _ c.loop-item.invariant.0 _ _ c.loop-item.invariant.1 c.in_err-put.ensures.adds)
 
-pub put_list-overflow_cast-items : goal.put_list-overflow_cast-items
-put_list-overflow_cast-items t c =
-    let some : 0 < length c.args.items.now = grind (arith, nat_tests) in
-    let size : length c.args.items.now < 2 ^ 32 = list_size c.args.items.now some c.requires in
-    search (rules, size)
+pub put_list-put_string-requires-clause-few : goal.put_list-put_string-requires-clause-few
+put_list-put_string-requires-clause-few t c = (string_fits c.args.items.now (sym c.if-is_string.ensures)).0
 
-pub put_list-returns : goal.put_list-returns
-put_list-returns t c =
+pub put_list-put_elements-requires : goal.put_list-put_elements-requires
+put_list-put_elements-requires t c =
     let some : 0 < length c.args.items.now = grind (arith, nat_tests) in
-    let front = Appends-front c.args.out.now.items _ c.extend_from_slice-2.new.self.items c.put_all.new.out.items (spellings (forest_of c.args.items.now)) (rw c.to_be_bytes.ensures at c.in_ok-extend_from_slice.ensures.items) c.in_ok-put_all.ensures in
-    let last = Appends-from_items c.extend_from_slice-3.result c.put_all.new.out.items c.extend_from_slice-3.new.self.items (106 ∷ []) c.extend_from_slice-3.ensures.items in
-    rw (list_spelling c.args.items.now some) (Appends-then c.extend_from_slice-3.result c.args.out.now.items _ c.put_all.new.out.items _ (106 ∷ []) front last)
+    let size = list_length c.args.items.now some (sym c.if-is_string.ensures) in
+    let few = length-le-written c.args.items.now in
+    (search (rules, at_most), (omega (arith, c.requires, size, few), omega (arith, c.requires, size)))
+
+pub put_list-returns-then-is_string-clause-adds : goal.put_list-returns-then-is_string-clause-adds
+put_list-returns-then-is_string-clause-adds t c =
+    let some : 0 < length c.args.items.now = grind (arith, nat_tests) in
+    rw (string_written c.args.items.now some (sym c.if-is_string.ensures)) c.put_string.ensures
+
+pub put_list-returns-then-is_string-clause-kept : goal.put_list-returns-then-is_string-clause-kept
+put_list-returns-then-is_string-clause-kept t c =
+    on_ok c.put_string.result (bytes_kept (forest_of c.args.items.now) (string_fits c.args.items.now (sym c.if-is_string.ensures)).1)
+
+pub put_list-returns-else-is_string-clause-adds : goal.put_list-returns-else-is_string-clause-adds
+put_list-returns-else-is_string-clause-adds t c =
+    let some : 0 < length c.args.items.now = grind (arith, nat_tests) in
+    rw (list_written c.args.items.now some (sym c.if-is_string.ensures)) c.put_elements.ensures.adds

@@ -1,8 +1,8 @@
 use Rattle.std.proofs.Common.{◌++◌, take, length, refl, sym, ap, ◌∙◌, arith}
 use Rattle.std.proofs.lemmas.List.{length_push, take_rest, take-append-drop, length-drop}
-use Rattle.disk_logs.specs.Items.{item_bytes, wire}
+use Rattle.log_items.specs.Items.{item_bytes, wire}
 use Rattle.disk_logs.proofs.ChunkLemmas.{moved, front_more, rest_length}
-use Rattle.disk_logs.proofs.ScanLemmas.{item_shorter}
+use Rattle.log_items.proofs.ItemLemmas.{item_shorter}
 use Rattle.disk_logs.proofs.chunks.Chunk.take.Goals as goal
 
 pub items-init : goal.items-init
@@ -16,9 +16,6 @@ items-init c =
       few = omega (arith, c.requires.fewer);
       ended = refl;
     }
-
-pub push-requires-clause-fits : goal.push-requires-clause-fits
-push-requires-clause-fits c = omega (arith, c.items.invariant.next, c.requires.fits, rest_length _ _ _ c.in-Some.ensures.item)
 
 pub items-smaller : goal.items-smaller
 items-smaller c = item_shorter _ _ _ c.in-Some.ensures.item

@@ -1,6 +1,6 @@
 use Rattle.std.proofs.Common.{◌≡◌, ◌+◌, ◌-◌, ◌≤◌, ◌++◌, ℕ, List, length, drop}
 use Rattle.disk_logs.specs.Chunks.{AreCounted}
-use Rattle.disk_logs.specs.Items.{wire}
+use Rattle.log_items.specs.Items.{wire}
 use Rattle.disk_logs.proofs.chunks.Chunk.take.Given as goal
 
 abbrev pub invariant-items : goal.invariant-items

@@ -1,5 +1,5 @@
 use Rattle.std.proofs.Common.{◌∙◌, true, ◌∷◌, []}
-use Rattle.disk_logs.specs.Items.{log_bytes}
+use Rattle.log_items.specs.Items.{log_bytes}
 use Rattle.disk_logs.proofs.Effects.{on_err}
 use Rattle.disk_logs.proofs.Drafts.{create_left, append_left_made, drafted, draft_kept}
 use Rattle.disk_logs.proofs.log.Log.draft.Goals as goal
@@ -10,7 +10,7 @@ returns-in_err-told-clause-left g c told =
 
 pub returns-in_err-told-2-clause-left : goal.returns-in_err-told-2-clause-left
 returns-in_err-told-2-clause-left g c told =
-    on_err _ (append_left_made _ _ _ _ _ _ _ _ _ _ _ _ c.draft_name-file.ensures (c.deref.ensures.value ∙ c.in_ok-bytes.ensures) c.told.ensures c.in_ok-told.was (c.create.ensures.done told)
+    on_err _ (append_left_made _ _ _ _ _ _ _ _ _ _ _ _ c.draft_name-file.ensures (c.deref.ensures.value ∙ c.in_ok-bytes.ensures.bytes) c.told.ensures c.in_ok-told.was (c.create.ensures.done told)
     (c.append.ensures.done told))
 
 pub returns-in_err-told-2-clause-others : goal.returns-in_err-told-2-clause-others
@@ -20,7 +20,7 @@ returns-in_err-told-2-clause-others g c told other apart =
 
 pub returns-clause-made : goal.returns-clause-made
 returns-clause-made g c told =
-    drafted _ _ _ _ _ _ _ _ _ _ _ _ _ c.draft_name-file.ensures (c.deref.ensures.value ∙ c.in_ok-bytes.ensures) c.told.ensures c.in_ok-told.was (c.create.ensures.done told)
+    drafted _ _ _ _ _ _ _ _ _ _ _ _ _ c.draft_name-file.ensures (c.deref.ensures.value ∙ c.in_ok-bytes.ensures.bytes) c.told.ensures c.in_ok-told.was (c.create.ensures.done told)
     c.told-2.ensures c.in_ok-told-2.was (c.append.ensures.done told)
 
 pub returns-clause-others : goal.returns-clause-others

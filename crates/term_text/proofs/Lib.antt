@@ -1,0 +1,17 @@
+pub mod Added
+pub mod Again
+pub mod Cut
+pub mod Decimals
+pub mod Found
+pub mod Fronts
+pub mod Listing
+pub mod Loop
+pub mod PrintedTexts
+pub mod Quoting
+pub mod Refused
+pub mod RefusedTerms
+pub mod Steps
+pub mod Texts
+pub mod Utf8
+pub mod Within
+pub mod Written
