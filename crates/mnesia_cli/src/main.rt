@@ -9,7 +9,7 @@ ghost use Rattle.mnesia_cli.specs.Words.{IsDirectory, Names};
 use mn_run::{HostDisk, HostIn, HostOut, Status, run};
 use std::process::ExitCode;
 use std::rt::{Env, Files};
-use std::{env, io};
+use std::{env, fs, io};
 
 const MOST_BYTES: usize = 4096;
 
@@ -39,11 +39,32 @@ fn directory(words: &[String]) -> &str
     }
 }
 
+// Three open directories.
+#[derive(Drop)]
+struct Taken<R: Files> {
+    _first: R::File,
+    _second: R::File,
+    _third: R::File,
+}
+
+// Takes the numbers of standard input, output and error where those are closed, so that no file of the directory gets one of
+// them, and is read as the script or written as a reply. A directory can be neither read nor written that way.
+fn take_closed<R: Files>(rt: &R) -> io::Result<Taken<R>> {
+    Ok(Taken {
+        _first: fs::open(rt, "/")?,
+        _second: fs::open(rt, "/")?,
+        _third: fs::open(rt, "/")?,
+    })
+}
+
 fn run_on<R: Files + Input + Print + AllocGlobal>(rt: &R, words: &[String]) -> Status
     ensures usage { result ≡ Status.Usage → HasForm (map string_bytes words.now) → ⊥ }
     ensures refused { (HasForm (map string_bytes words.now) → ⊥) → (result ≡ Status.Usage) ⊎ (result ≡ Status.Memory) }
 {
     let alloc = rt.alloc();
+    let Ok(_taken) = take_closed(rt) else {
+        return Status::Memory;
+    };
     let Ok(mut disk) = HostDisk::new(rt, alloc, directory(words)) else {
         return Status::Memory;
     };
