@@ -21,6 +21,8 @@ fi
 
 cat >"$dir/made.escript" <<'ERL'
 %% Makes terms and writes what Erlang prints and writes of each, and their order.
+-mode(compile).
+
 main([Number, Shown, Sorted]) ->
     rand:seed(exsss, {1, 2, 3}),
     Terms = [term(4) || _ <- lists:seq(1, list_to_integer(Number))],
