@@ -28,7 +28,7 @@ use Rattle.term_text.proofs.Texts.{IsTextWithin, list_of, trees_of-list_of, elem
 -- ---- numbers
 
 -- a first byte of a number begins nothing else
-number_only : (one : List ℕ → Result (Tree × List ℕ) Fault) (levels b : ℕ) (rest : List ℕ) → (is_ascii_digit b || (b == 45)) ≡ true → begun_at one levels (b ∷ rest) ≡ number_at (b ∷ rest)
+pub number_only : (one : List ℕ → Result (Tree × List ℕ) Fault) (levels b : ℕ) (rest : List ℕ) → (is_ascii_digit b || (b == 45)) ≡ true → begun_at one levels (b ∷ rest) ≡ number_at (b ∷ rest)
 unfolding begun_at
 number_only one levels b rest h =
     let facts = others b h in
@@ -40,7 +40,7 @@ number_only one levels b rest h =
 digit_first : (c : ℕ) → digit_value c < 10 → (is_ascii_digit c || (c == 45)) ≡ true
 digit_first c h = let range = digit_from_value c h in grind (arith, nat_tests)
 
-numeral_only : (one : List ℕ → Result (Tree × List ℕ) Fault) (levels : ℕ) (text rest : List ℕ) → IsNumeral 10 text → begun_at one levels (text ++ rest) ≡ number_at (text ++ rest)
+pub numeral_only : (one : List ℕ → Result (Tree × List ℕ) Fault) (levels : ℕ) (text rest : List ℕ) → IsNumeral 10 text → begun_at one levels (text ++ rest) ≡ number_at (text ++ rest)
 numeral_only one levels [] rest is = absurd (omega (arith, is.0))
 numeral_only one levels (c ∷ text) rest is = number_only one levels c (text ++ rest) (digit_first c is.1.0)
 

@@ -1,7 +1,7 @@
 -- Reading bytes, and the same bytes with more behind them: where the first is refused before its end, the second is too.
-use Rattle.std.proofs.Common.{◌≡◌, ℕ, zero, suc, ◌+◌, ◌-◌, ◌*◌, ◌/◌, ◌%◌, ◌<◌, ◌≤◌, Bool, true, false, cond, not, ltb, leb, List, [], ◌∷◌, ◌++◌, length, take, drop, map, decimal, Option, Some, None, Result, Ok, Err, refl, sym, ap, subst, ◌∙◌, arith, append_assoc, append-nil, inl, inr, ◌⊎◌}
+use Rattle.std.proofs.Common.{◌≡◌, ℕ, zero, suc, ◌+◌, ◌-◌, ◌/◌, ◌%◌, ◌<◌, ◌≤◌, Bool, true, false, cond, not, ltb, leb, List, [], ◌∷◌, ◌++◌, length, take, drop, map, decimal, Option, Some, None, Result, Ok, Err, refl, sym, ap, subst, ◌∙◌, arith, append_assoc, append-nil, inl, inr, ◌⊎◌}
 use Rattle.std.specs.Prelude.{◌==◌, ◌&&◌, pos}
-use Rattle.std.specs.Char.{is_ascii_digit, is_ascii_hexdigit, is_ascii_lowercase, encode_utf8, digit_value}
+use Rattle.std.specs.Char.{is_ascii_digit, is_ascii_hexdigit, is_ascii_lowercase, encode_utf8}
 use Rattle.std.specs.List.{prefix_len}
 use Rattle.std.specs.Str.{encode_utf8_all}
 use Rattle.std.specs.Str.Parse.{digits_value, digits_value_after, signed_digits_value}
@@ -15,9 +15,7 @@ use Rattle.term_text.specs.declared.fault.Fault.{Fault}
 use Rattle.term_text.specs.declared.fault.Fault.TheVariants.{Bad, WideInt, TooDeep}
 use Rattle.term_text.specs.Grammar.{begins, is_blank, is_name_byte, escaped}
 use Rattle.term_text.specs.Reading.{◌>>=◌, refused, byte_at, unblanked, is_positive_digit, positive_len, natural_len, number_len, fits, number_at, small_at, utf8_at, hex_digits_at, is_scalar, hex_at, letter_at, escape_at, character_at, narrow_at, quoted_at, as_numbers, more_at, elements_at, inner_at, name_at, quoted_atom_at, may_begin_character, string_at, byte_string_at, bytes_at, binary_at, tuple_at, list_at, begun_at, may_begin_term, term_at}
-use Rattle.term_core.specs.Tree.{depth}
 use Rattle.term_text.specs.declared.error.TextErr.TheVariants as refusals
-use Rattle.term_text.specs.Grammar.{IsText}
 use Rattle.term_text.specs.Places.{read}
 use Rattle.term_text.specs.Viable.{continues, NoText}
 use Rattle.std.proofs.lemmas.Fmt.{decimal_is_IsNumeral_wide}
@@ -26,27 +24,28 @@ use Rattle.term_text.proofs.Listing.{more_read, begins_some}
 use Rattle.term_text.proofs.Found.{term_is}
 use Rattle.term_text.proofs.Again.{term_again}
 use Rattle.term_text.proofs.Texts.{text_begins, stops}
-use Rattle.term_text.proofs.RefusedTerms.{with_places-Bad}
-use Rattle.term_text.proofs.Decimals.{value_grows, small_read}
+use Rattle.term_text.proofs.RefusedTerms.{with_places-Bad, with_places-WideInt, with_places-TooDeep}
+use Rattle.term_text.proofs.Decimals.{value_grows, value_append, stays_wide, small_read}
 use Rattle.term_text.proofs.Quoting.{utf8_read, utf8_again, character_read, character_again, character_some}
 
-abbrev IsErr : {A : Type 0} → Result A Fault → Type 0
+-- refused, for whatever fault
+abbrev pub IsErr : {A : Type 0} → Result A Fault → Type 0
 IsErr (Ok x) = ⊥
 IsErr (Err f) = Unit {0}
 
--- ended where the bytes did
+-- ended where the bytes did, without a fault that more of them would not mend
 abbrev Open : {A : Type 0} → (A → List ℕ) → Result A Fault → Type 0
 Open behind (Ok x) = behind x ≡ []
 Open behind (Err (Bad left)) = left ≡ 0
-Open behind (Err (WideInt left)) = Unit {0}
-Open behind (Err (TooDeep left)) = Unit {0}
+Open behind (Err (WideInt left)) = ⊥
+Open behind (Err (TooDeep left)) = ⊥
 
 -- the second read as the first did, with more behind, but where the first came to its end
 abbrev Cut : {A : Type 0} → (A → List ℕ) → (A → A) → Result A Fault → Result A Fault → Type 0
 Cut behind grow (Ok x) whole = (behind x ≡ []) ⊎ (whole ≡ Ok (grow x))
 Cut behind grow (Err (Bad left)) whole = (left ≡ 0) ⊎ IsErr whole
-Cut behind grow (Err (WideInt left)) whole = Unit {0}
-Cut behind grow (Err (TooDeep left)) whole = Unit {0}
+Cut behind grow (Err (WideInt left)) whole = IsErr whole
+Cut behind grow (Err (TooDeep left)) whole = IsErr whole
 
 abbrev second : {A : Type 0} → A × List ℕ → List ℕ
 second x = x.1
@@ -60,8 +59,8 @@ itself rest = rest
 open_cut : {A : Type 0} (behind : A → List ℕ) (grow : A → A) (r whole : Result A Fault) → Open behind r → Cut behind grow r whole
 open_cut behind grow (Ok x) whole h = inl h
 open_cut behind grow (Err (Bad left)) whole h = inl h
-open_cut behind grow (Err (WideInt left)) whole h = tt
-open_cut behind grow (Err (TooDeep left)) whole h = tt
+open_cut behind grow (Err (WideInt left)) whole h = absurd h
+open_cut behind grow (Err (TooDeep left)) whole h = absurd h
 
 err_bind : {A B : Type 0} (r : Result A Fault) (f : A → Result B Fault) → IsErr r → IsErr (r >>= f)
 err_bind (Ok x) f h = absurd h
@@ -73,8 +72,8 @@ cut_bind {A} {B} behind grow last more_last (Ok x) whole f g (inl h) ends goes =
 cut_bind {A} {B} behind grow last more_last (Ok x) whole f g (inr h) ends goes = subst (λ (w : Result A Fault). Cut last more_last (f x) (w >>= g)) (sym h) (goes x refl)
 cut_bind behind grow last more_last (Err (Bad left)) whole f g (inl h) ends goes = inl h
 cut_bind behind grow last more_last (Err (Bad left)) whole f g (inr h) ends goes = inr (err_bind whole g h)
-cut_bind behind grow last more_last (Err (WideInt left)) whole f g h ends goes = tt
-cut_bind behind grow last more_last (Err (TooDeep left)) whole f g h ends goes = tt
+cut_bind behind grow last more_last (Err (WideInt left)) whole f g h ends goes = err_bind whole g h
+cut_bind behind grow last more_last (Err (TooDeep left)) whole f g h ends goes = err_bind whole g h
 
 cut_cond : {A : Type 0} (behind : A → List ℕ) (grow : A → A) (b : Bool) (x y v w : Result A Fault) → (b ≡ true → Cut behind grow x v) → (b ≡ false → Cut behind grow y w) → Cut behind grow (cond b x y) (cond b v w)
 cut_cond behind grow true x y v w p q = p refl
@@ -83,8 +82,8 @@ cut_cond behind grow false x y v w p q = q refl
 open_bind : {A B : Type 0} (behind : A → List ℕ) (last : B → List ℕ) (r : Result A Fault) (f : A → Result B Fault) → Open behind r → ((x : A) → behind x ≡ [] → Open last (f x)) → Open last (r >>= f)
 open_bind behind last (Ok x) f h g = g x h
 open_bind behind last (Err (Bad left)) f h g = h
-open_bind behind last (Err (WideInt left)) f h g = tt
-open_bind behind last (Err (TooDeep left)) f h g = tt
+open_bind behind last (Err (WideInt left)) f h g = h
+open_bind behind last (Err (TooDeep left)) f h g = h
 
 -- a reader at the end of the bytes, and with more behind them
 abbrev AtEnd : {A : Type 0} → (List ℕ → Result (A × List ℕ) Fault) → Type 0
@@ -167,8 +166,8 @@ blanked_cut {A} behind grow one bytes more ends cuts = elim (unblanked_cut bytes
 abbrev LenCut : List ℕ → Result ℕ Fault → Result ℕ Fault → Type 0
 LenCut bytes (Ok n) whole = (n ≡ length bytes) ⊎ ((n ≤ length bytes) × (whole ≡ Ok n))
 LenCut bytes (Err (Bad left)) whole = (left ≡ 0) ⊎ IsErr whole
-LenCut bytes (Err (WideInt left)) whole = Unit {0}
-LenCut bytes (Err (TooDeep left)) whole = Unit {0}
+LenCut bytes (Err (WideInt left)) whole = IsErr whole
+LenCut bytes (Err (TooDeep left)) whole = IsErr whole
 
 positive_cut : (bytes more : List ℕ) → LenCut bytes (positive_len bytes) (positive_len (bytes ++ more))
 unfolding positive_len
@@ -204,63 +203,99 @@ number_len_cut (b ∷ rest) more = by (b == 45)
     minus (Ok n) whole (inr h) = inr (omega (arith, h.0), rw h.1 refl)
     minus (Err (Bad left)) whole (inl h) = inl h
     minus (Err (Bad left)) whole (inr h) = inr (err_bind whole (λ n. Ok (n + 1)) h)
-    minus (Err (WideInt left)) whole h = tt
-    minus (Err (TooDeep left)) whole h = tt
+    minus (Err (WideInt left)) whole h = err_bind whole (λ n. Ok (n + 1)) h
+    minus (Err (TooDeep left)) whole h = err_bind whole (λ n. Ok (n + 1)) h
 
     by : (t : Bool) → LenCut (b ∷ rest) (cond t (positive_len rest >>= λ n. Ok (n + 1)) (natural_len (b ∷ rest))) (cond t (positive_len (rest ++ more) >>= λ n. Ok (n + 1)) (natural_len (b ∷ (rest ++ more))))
     by true = minus (positive_len rest) (positive_len (rest ++ more)) (positive_cut rest more)
     by false = natural_cut (b ∷ rest) more
 
-number_cut : (more : List ℕ) → Cuts more number_at
-unfolding number_at
-number_cut more bytes = by (number_len bytes) (number_len (bytes ++ more)) (number_len_cut bytes more)
-  where
-    end : List ℕ → ℕ → Result (Tree × List ℕ) Fault
-    end text n = cond (fits (signed_digits_value 10 (take n text))) (Ok (int (signed_digits_value 10 (take n text)), drop n text)) (Err (WideInt (length text)))
-
-    at_end : (t : Bool) (x : Tree) (rest : List ℕ) (left : ℕ) → rest ≡ [] → Open second (cond t (Ok (x, rest)) (Err (WideInt left)))
-    at_end true x rest left h = h
-    at_end false x rest left h = tt
-
-    inside : (t : Bool) (x : Tree) (rest : List ℕ) (left other : ℕ) → Cut second (grown more) (cond t (Ok (x, rest)) (Err (WideInt left))) (cond t (Ok (x, rest ++ more)) (Err (WideInt other)))
-    inside true x rest left other = inr refl
-    inside false x rest left other = tt
-
-    by : (r whole : Result ℕ Fault) → LenCut bytes r whole → Cut second (grown more) (r >>= end bytes) (whole >>= end (bytes ++ more))
-    by (Ok n) whole (inl h) = open_cut second (grown more) (end bytes n) (whole >>= end (bytes ++ more)) (at_end (fits (signed_digits_value 10 (take n bytes))) (int (signed_digits_value 10 (take n bytes))) (drop n bytes) (length bytes) (drop_whole n bytes h))
-    by (Ok n) whole (inr h) =
-        let P : List ℕ → List ℕ → Type 0 = λ front back. Cut second (grown more) (end bytes n) (cond (fits (signed_digits_value 10 front)) (Ok (int (signed_digits_value 10 front), back)) (Err (WideInt (length (bytes ++ more))))) in
-        let here : P (take n (bytes ++ more)) (drop n (bytes ++ more)) =
-        subst (λ (front : List ℕ). P front (drop n (bytes ++ more))) (sym (take_front n bytes more h.0)) (subst (P (take n bytes)) (sym (drop_front n bytes more h.0))
-        (inside (fits (signed_digits_value 10 (take n bytes))) (int (signed_digits_value 10 (take n bytes))) (drop n bytes) (length bytes) (length (bytes ++ more)))) in
-        subst (λ (w : Result ℕ Fault). Cut second (grown more) (end bytes n) (w >>= end (bytes ++ more))) (sym h.1) here
-    by (Err (Bad left)) whole (inl h) = inl h
-    by (Err (Bad left)) whole (inr h) = inr (err_bind whole (end (bytes ++ more)) h)
-    by (Err (WideInt left)) whole h = tt
-    by (Err (TooDeep left)) whole h = tt
-
--- a number that goes on does not become less
-value_append : (n : ℕ) (digits others : List ℕ) → digits_value_after 10 n (digits ++ others) ≡ digits_value_after 10 (digits_value_after 10 n digits) others
-value_append n [] others = refl
-value_append n (c ∷ digits) others = value_append (n * 10 + digit_value c) digits others
+take_all : (n : ℕ) (xs : List ℕ) → n ≡ length xs → take n xs ≡ xs
+take_all n [] h = rw h refl
+take_all zero (x ∷ xs) h = absurd (omega arith)
+take_all (suc n) (x ∷ xs) h = ap (λ (s : List ℕ). x ∷ s) (take_all n xs (omega arith))
 
 take_over : (m : ℕ) (xs more : List ℕ) → length xs ≤ m → take m (xs ++ more) ≡ xs ++ take (m - length xs) more
 take_over m [] more h = ap (λ (n : ℕ). take n more) (omega arith)
 take_over zero (x ∷ xs) more h = absurd (omega arith)
 take_over (suc m) (x ∷ xs) more h = ap (λ (s : List ℕ). x ∷ s) (take_over m xs more (omega arith) ∙ ap (λ (n : ℕ). xs ++ take n more) (omega arith))
 
-natural_grows : (bytes more : List ℕ) (n m : ℕ) → natural_len bytes ≡ Ok n → natural_len (bytes ++ more) ≡ Ok m → n ≤ m
-unfolding natural_len positive_len
-natural_grows [] more n m e f = absurd cc
-natural_grows (b ∷ rest) more n m e f = by (b == 48) (is_positive_digit b) e f
+-- a number takes no fewer bytes where there are more
+positive_grows : (bytes more : List ℕ) (n m : ℕ) → positive_len bytes ≡ Ok n → positive_len (bytes ++ more) ≡ Ok m → n ≤ m
+unfolding positive_len
+positive_grows [] more n m e f = absurd cc
+positive_grows (b ∷ rest) more n m e f = by (is_positive_digit b) e f
   where
-    by : (t u : Bool) → cond t (Ok 1) (cond u (Ok (prefix_len is_ascii_digit (b ∷ rest))) (refused (b ∷ rest))) ≡ Ok n → cond t (Ok 1) (cond u (Ok (prefix_len is_ascii_digit (b ∷ (rest ++ more)))) (refused (b ∷ (rest ++ more)))) ≡ Ok m → n ≤ m
-    by true u e f = let p : 1 ≡ n = cc in let q : 1 ≡ m = cc in omega arith
-    by false true e f =
+    by : (t : Bool) → cond t (Ok (prefix_len is_ascii_digit (b ∷ rest))) (refused (b ∷ rest)) ≡ Ok n → cond t (Ok (prefix_len is_ascii_digit (b ∷ (rest ++ more)))) (refused (b ∷ (rest ++ more))) ≡ Ok m → n ≤ m
+    by true e f =
         let p : prefix_len is_ascii_digit (b ∷ rest) ≡ n = cc in
         let q : prefix_len is_ascii_digit (b ∷ (rest ++ more)) ≡ m = cc in
         omega (arith, p, q, prefix_grows is_ascii_digit (b ∷ rest) more)
-    by false false e f = absurd cc
+    by false e f = absurd cc
+
+natural_grows : (bytes more : List ℕ) (n m : ℕ) → natural_len bytes ≡ Ok n → natural_len (bytes ++ more) ≡ Ok m → n ≤ m
+unfolding natural_len positive_len
+natural_grows [] more n m e f = absurd cc
+natural_grows (b ∷ rest) more n m e f = by (b == 48) e f
+  where
+    by : (t : Bool) → cond t (Ok 1) (positive_len (b ∷ rest)) ≡ Ok n → cond t (Ok 1) (positive_len (b ∷ (rest ++ more))) ≡ Ok m → n ≤ m
+    by true e f = let p : 1 ≡ n = cc in let q : 1 ≡ m = cc in omega arith
+    by false e f = positive_grows (b ∷ rest) more n m e f
+
+number_grows : (bytes more : List ℕ) (n m : ℕ) → number_len bytes ≡ Ok n → number_len (bytes ++ more) ≡ Ok m → n ≤ m
+unfolding number_len natural_len positive_len
+number_grows [] more n m e f = absurd cc
+number_grows (b ∷ rest) more n m e f = by (b == 45) e f
+  where
+    minus : (r whole : Result ℕ Fault) → ((k l : ℕ) → r ≡ Ok k → whole ≡ Ok l → k ≤ l) → (r >>= λ n. Ok (n + 1)) ≡ Ok n → (whole >>= λ n. Ok (n + 1)) ≡ Ok m → n ≤ m
+    minus (Ok k) (Ok l) grows e f = let p : k + 1 ≡ n = cc in let q : l + 1 ≡ m = cc in omega (arith, p, q, grows k l refl refl)
+    minus (Ok k) (Err d) grows e f = absurd cc
+    minus (Err d) whole grows e f = absurd cc
+
+    by : (t : Bool) → cond t (positive_len rest >>= λ n. Ok (n + 1)) (natural_len (b ∷ rest)) ≡ Ok n → cond t (positive_len (rest ++ more) >>= λ n. Ok (n + 1)) (natural_len (b ∷ (rest ++ more))) ≡ Ok m → n ≤ m
+    by true e f = minus (positive_len rest) (positive_len (rest ++ more)) (positive_grows rest more) e f
+    by false e f = natural_grows (b ∷ rest) more n m e f
+
+number_cut : (more : List ℕ) → Cuts more number_at
+unfolding number_at
+number_cut more bytes = by (number_len bytes) (number_len (bytes ++ more)) refl refl (number_len_cut bytes more)
+  where
+    end : List ℕ → ℕ → Result (Tree × List ℕ) Fault
+    end text n = cond (fits (signed_digits_value 10 (take n text))) (Ok (int (signed_digits_value 10 (take n text)), drop n text)) (Err (WideInt (length text)))
+
+    wide : (n m : ℕ) → n ≡ length bytes → number_len bytes ≡ Ok n → number_len (bytes ++ more) ≡ Ok m → fits (signed_digits_value 10 (take n bytes)) ≡ false → fits (signed_digits_value 10 (take m (bytes ++ more))) ≡ false
+    wide n m whole e f high =
+        let longer : n ≤ m = number_grows bytes more n m e f in
+        let text : take m (bytes ++ more) ≡ bytes ++ take (m - length bytes) more = take_over m bytes more (omega arith) in
+        let P : List ℕ → Type 0 = λ t. fits (signed_digits_value 10 t) ≡ false in
+        subst P (sym text) (stays_wide bytes (take (m - length bytes) more) (subst P (take_all n bytes whole) high))
+
+    is_err : (t : Bool) (x : Tree × List ℕ) → t ≡ false → IsErr (cond t (Ok x) (Err (WideInt (length (bytes ++ more)))))
+    is_err true x h = absurd cc
+    is_err false x h = tt
+
+    at_end : (n : ℕ) (t : Bool) → fits (signed_digits_value 10 (take n bytes)) ≡ t → n ≡ length bytes → number_len bytes ≡ Ok n → (whole : Result ℕ Fault) → number_len (bytes ++ more) ≡ whole
+        → Cut second (grown more) (cond t (Ok (int (signed_digits_value 10 (take n bytes)), drop n bytes)) (Err (WideInt (length bytes)))) (whole >>= end (bytes ++ more))
+    at_end n true h whole_n e whole f = inl (drop_whole n bytes whole_n)
+    at_end n false h whole_n e (Ok m) f = is_err (fits (signed_digits_value 10 (take m (bytes ++ more)))) (int (signed_digits_value 10 (take m (bytes ++ more))), drop m (bytes ++ more)) (wide n m whole_n e f h)
+    at_end n false h whole_n e (Err d) f = tt
+
+    inside : (t : Bool) (x : Tree) (rest : List ℕ) (left other : ℕ) → Cut second (grown more) (cond t (Ok (x, rest)) (Err (WideInt left))) (cond t (Ok (x, rest ++ more)) (Err (WideInt other)))
+    inside true x rest left other = inr refl
+    inside false x rest left other = tt
+
+    by : (r whole : Result ℕ Fault) → number_len bytes ≡ r → number_len (bytes ++ more) ≡ whole → LenCut bytes r whole → Cut second (grown more) (r >>= end bytes) (whole >>= end (bytes ++ more))
+    by (Ok n) whole e f (inl h) = at_end n (fits (signed_digits_value 10 (take n bytes))) refl h e whole f
+    by (Ok n) whole e f (inr h) =
+        let P : List ℕ → List ℕ → Type 0 = λ front back. Cut second (grown more) (end bytes n) (cond (fits (signed_digits_value 10 front)) (Ok (int (signed_digits_value 10 front), back)) (Err (WideInt (length (bytes ++ more))))) in
+        let here : P (take n (bytes ++ more)) (drop n (bytes ++ more)) =
+        subst (λ (front : List ℕ). P front (drop n (bytes ++ more))) (sym (take_front n bytes more h.0)) (subst (P (take n bytes)) (sym (drop_front n bytes more h.0))
+        (inside (fits (signed_digits_value 10 (take n bytes))) (int (signed_digits_value 10 (take n bytes))) (drop n bytes) (length bytes) (length (bytes ++ more)))) in
+        subst (λ (w : Result ℕ Fault). Cut second (grown more) (end bytes n) (w >>= end (bytes ++ more))) (sym h.1) here
+    by (Err (Bad left)) whole e f (inl h) = inl h
+    by (Err (Bad left)) whole e f (inr h) = inr (err_bind whole (end (bytes ++ more)) h)
+    by (Err (WideInt left)) whole e f h = err_bind whole (end (bytes ++ more)) h
+    by (Err (TooDeep left)) whole e f h = err_bind whole (end (bytes ++ more)) h
 
 small_cut : (more : List ℕ) → Cuts more small_at
 unfolding small_at
@@ -277,11 +312,6 @@ small_cut more bytes = by (natural_len bytes) (natural_len (bytes ++ more)) refl
         let value : digits_value 10 (take m (bytes ++ more)) ≡ digits_value_after 10 (digits_value 10 bytes) (take (m - length bytes) more) = ap (digits_value 10) text ∙ value_append 0 bytes (take (m - length bytes) more) in
         let low : 256 ≤ digits_value 10 bytes = omega (arith, ltb-false _ _ high, ap (digits_value 10) all) in
         le-ltb _ _ (omega (arith, value, low, value_grows (digits_value 10 bytes) (take (m - length bytes) more)))
-      where
-        take_all : (n : ℕ) (xs : List ℕ) → n ≡ length xs → take n xs ≡ xs
-        take_all n [] h = rw h refl
-        take_all zero (x ∷ xs) h = absurd (omega arith)
-        take_all (suc n) (x ∷ xs) h = ap (λ (s : List ℕ). x ∷ s) (take_all n xs (omega arith))
 
     inside : (t : Bool) (x : ℕ) (rest : List ℕ) → Cut second (grown more) (cond t (Ok (x, rest)) (refused bytes)) (cond t (Ok (x, rest ++ more)) (refused (bytes ++ more)))
     inside true x rest = inr refl
@@ -307,8 +337,8 @@ small_cut more bytes = by (natural_len bytes) (natural_len (bytes ++ more)) refl
         subst (λ (w : Result ℕ Fault). Cut second (grown more) (end bytes n) (w >>= end (bytes ++ more))) (sym h.1) here
     by (Err (Bad left)) whole e f (inl h) = inl h
     by (Err (Bad left)) whole e f (inr h) = inr (err_bind whole (end (bytes ++ more)) h)
-    by (Err (WideInt left)) whole e f h = tt
-    by (Err (TooDeep left)) whole e f h = tt
+    by (Err (WideInt left)) whole e f h = err_bind whole (end (bytes ++ more)) h
+    by (Err (TooDeep left)) whole e f h = err_bind whole (end (bytes ++ more)) h
 
 -- ---- characters
 
@@ -368,7 +398,7 @@ tail_continues c x y a e h = by (ltb c 128) (ltb c 2048) (ltb c 65536) a h
     by false false false (a1 ∷ a2 ∷ a3 ∷ a4 ∷ a) h = absurd cc
 
 -- what follows does not continue a character
-abbrev Fresh : List ℕ → Type 0
+abbrev pub Fresh : List ℕ → Type 0
 Fresh more = begins continues more ≡ false
 
 -- an ill sequence stays ill
@@ -462,8 +492,8 @@ escape_cut more (b ∷ rest) = cut_cond second (grown more) (b == 120) (hex_at r
 err_cut : (more : List ℕ) (r whole : Result (ℕ × List ℕ) Fault) → ((x : ℕ × List ℕ) → r ≡ Ok x → whole ≡ Ok (grown more x)) → ((d : Fault) → r ≡ Err d → IsErr whole) → Cut second (grown more) r whole
 err_cut more (Ok x) whole p q = inr (p x refl)
 err_cut more (Err (Bad left)) whole p q = inr (q (Bad left) refl)
-err_cut more (Err (WideInt left)) whole p q = tt
-err_cut more (Err (TooDeep left)) whole p q = tt
+err_cut more (Err (WideInt left)) whole p q = q (WideInt left) refl
+err_cut more (Err (TooDeep left)) whole p q = q (TooDeep left) refl
 
 utf8_exact : (more bytes : List ℕ) (x : ℕ × List ℕ) → utf8_at bytes ≡ Ok x → utf8_at (bytes ++ more) ≡ Ok (grown more x)
 utf8_exact more bytes x e =
@@ -508,8 +538,8 @@ narrow_cut more fresh bytes =
     exactly : (r whole : Result (ℕ × List ℕ) Fault) → Cut second (grown more) r whole → ((x : ℕ × List ℕ) → r ≡ Ok x → whole ≡ Ok (grown more x)) → Cut (λ x. 0 ∷ []) (grown more) r whole
     exactly (Ok x) whole cut exact = inr (exact x refl)
     exactly (Err (Bad left)) whole cut exact = cut
-    exactly (Err (WideInt left)) whole cut exact = tt
-    exactly (Err (TooDeep left)) whole cut exact = tt
+    exactly (Err (WideInt left)) whole cut exact = cut
+    exactly (Err (TooDeep left)) whole cut exact = cut
 
     kind : (t : Bool) (c : ℕ × List ℕ) → Cut second (grown more) (cond t (Ok c) (refused bytes)) (cond t (Ok (grown more c)) (refused (bytes ++ more)))
     kind true c = inr refl
@@ -844,16 +874,41 @@ term_cut more fresh (suc levels) bytes = begun_cut more fresh (term_at levels) (
 
 -- ---- the places
 
-no_text : (more bytes : List ℕ) (left : ℕ) → Fresh more → term_at 100 bytes ≡ Err (Bad left) → 0 < left → (t : Tree) → depth t ≤ 100 → IsText t (bytes ++ more) → ⊥
-no_text more bytes left fresh refusal some t deep is =
+-- More bytes may mend a fault only where it is that the bytes end.
+abbrev pub Inside : Fault → Type 0
+Inside (Bad left) = 0 < left
+Inside (WideInt left) = Unit {0}
+Inside (TooDeep left) = Unit {0}
+
+still : {A : Type 0} (behind : A → List ℕ) (grow : A → A) (f : Fault) (whole : Result A Fault) → Cut behind grow (Err f) whole → Inside f → IsErr whole
+still behind grow (Bad left) whole (inl h) some = absurd (omega (arith, h, some))
+still behind grow (Bad left) whole (inr h) some = h
+still behind grow (WideInt left) whole h some = h
+still behind grow (TooDeep left) whole h some = h
+
+pub stays_refused : (more bytes : List ℕ) (f : Fault) → Fresh more → term_at 100 bytes ≡ Err f → Inside f → IsErr (term_at 100 (bytes ++ more))
+stays_refused more bytes f fresh refusal inside =
     let cut = subst (λ (r : Result (Tree × List ℕ) Fault). Cut second (grown more) r (term_at 100 (bytes ++ more))) refusal (term_cut more fresh 100 bytes) in
-    let read : term_at 100 (bytes ++ more) ≡ Ok (t, []) = ap (term_at 100) (sym (append-nil (bytes ++ more))) ∙ term_again 100 t (bytes ++ more) [] is deep (stops t (bytes ++ more) [] refl) in
-    elim cut [
-      | inl h ↦ absurd (omega arith)
-      | inr h ↦ let P : Result (Tree × List ℕ) Fault → Type 0 = IsErr in subst P read h
-    ]
+    still second (grown more) f (term_at 100 (bytes ++ more)) cut inside
+
+early : (text : List ℕ) (at : ℕ) (f : Fault) → term_at 100 (drop at text) ≡ Err f → Inside f → NoText text at
+early text at f refusal inside more fresh t deep is =
+    let bytes : List ℕ = drop at text ++ more in
+    let read : term_at 100 bytes ≡ Ok (t, []) = ap (term_at 100) (sym (append-nil bytes)) ∙ term_again 100 t bytes [] is deep (stops t bytes [] refl) in
+    let P : Result (Tree × List ℕ) Fault → Type 0 = IsErr in
+    subst P read (stays_refused more (drop at text) f fresh refusal inside)
 
 pub is_early : (text : List ℕ) (at place : ℕ) → at ≤ length text → read text at ≡ Err (refusals.Bad place) → place < length text → NoText text at
-is_early text at place le e inside more fresh t deep is =
+is_early text at place le e inside =
     let refusal = with_places-Bad (length text) (term_at 100 (drop at text)) place e in
-    no_text more (drop at text) refusal.0 fresh refusal.1 (omega (arith, refusal.2)) t deep is
+    early text at (Bad refusal.0) refusal.1 (omega (arith, refusal.2))
+
+pub is_early_wide : (text : List ℕ) (at place : ℕ) → at ≤ length text → read text at ≡ Err (refusals.WideInt place) → NoText text at
+is_early_wide text at place le e =
+    let refusal = with_places-WideInt (length text) (term_at 100 (drop at text)) place e in
+    early text at (WideInt refusal.0) refusal.1 tt
+
+pub is_early_deep : (text : List ℕ) (at place : ℕ) → at ≤ length text → read text at ≡ Err (refusals.TooDeep place) → NoText text at
+is_early_deep text at place le e =
+    let refusal = with_places-TooDeep (length text) (term_at 100 (drop at text)) place e in
+    early text at (TooDeep refusal.0) refusal.1 tt

@@ -6,7 +6,7 @@ use Rattle.std.specs.Char.{is_ascii_digit, digit_value}
 use Rattle.std.specs.Fmt.{signed_decimal}
 use Rattle.std.specs.List.{prefix_len, list_all}
 use Rattle.std.specs.Str.Parse.{AllDigits, IsNumeral, digits_value, digits_value_after, signed_digits_value}
-use Rattle.std.proofs.lemmas.Bool.{and_parts, eqb-true, ltb-true, lt-ltb, and_from, ne_eqb}
+use Rattle.std.proofs.lemmas.Bool.{and_parts, eqb-true, ltb-true, ltb-false, lt-ltb, le-ltb, and_from, ne_eqb}
 use Rattle.std.proofs.lemmas.Bool.Decides.{nat_tests}
 use Rattle.std.proofs.lemmas.Fmt.{decimal_digit, decimal_step_wide, decimal_by_steps_wide, decimal_is_IsNumeral_wide}
 use Rattle.std.proofs.lemmas.List.{take-append-drop, take_at, drop_at}
@@ -25,6 +25,14 @@ use Rattle.term_text.proofs.Steps.{bind_ok, guard_held, front_stops, prefix_whol
 pub value_grows : (n : ℕ) (digits : List ℕ) → n ≤ digits_value_after 10 n digits
 value_grows n [] = omega arith
 value_grows n (c ∷ digits) = omega (arith, value_grows (n * 10 + digit_value c) digits)
+
+pub value_append : (n : ℕ) (digits others : List ℕ) → digits_value_after 10 n (digits ++ others) ≡ digits_value_after 10 (digits_value_after 10 n digits) others
+value_append n [] others = refl
+value_append n (c ∷ digits) others = value_append (n * 10 + digit_value c) digits others
+
+-- a number that goes on does not become less
+value_longer : (digits others : List ℕ) → digits_value 10 digits ≤ digits_value 10 (digits ++ others)
+value_longer digits others = omega (arith, value_append 0 digits others, value_grows (digits_value 10 digits) others)
 
 shifted : (m d : ℕ) → d < 10 → ((m * 10 + d) / 10 ≡ m) × ((m * 10 + d) % 10 ≡ d)
 shifted m d h = (omega arith, omega arith)
@@ -106,11 +114,32 @@ is_fits : (z : ℤ) → FitsSigned w128 z → fits z ≡ true
 is_fits (pos n) h = lt-ltb _ _ (omega (arith, h.sfits))
 is_fits (negsuc n) h = lt-ltb _ _ (omega (arith, h.sfits))
 
+above_wide : (n m : ℕ) → n ≤ m → fits (pos n) ≡ false → fits (pos m) ≡ false
+above_wide n m h wide = le-ltb m (2 ^ 127) (omega (arith, h, ltb-false n (2 ^ 127) wide))
+
+below_wide : (n m : ℕ) → n ≤ m → fits (neg_ℤ (pos n)) ≡ false → fits (neg_ℤ (pos m)) ≡ false
+below_wide zero m h wide = absurd cc
+below_wide (suc n) zero h wide = absurd (omega (arith, h))
+below_wide (suc n) (suc m) h wide = le-ltb m (2 ^ 127) (omega (arith, h, ltb-false n (2 ^ 127) wide))
+
+-- a number that does not fit does not where it goes on
+pub stays_wide : (text others : List ℕ) → fits (signed_digits_value 10 text) ≡ false → fits (signed_digits_value 10 (text ++ others)) ≡ false
+stays_wide [] others wide = absurd cc
+stays_wide (b ∷ text) others wide = by (eqb b 45) (eqb b 43) wide
+  where
+    signed : Bool → Bool → List ℕ → Bool
+    signed t u rest = fits (cond t (neg_ℤ (pos (digits_value 10 (cond t rest (drop (cond u 1 0) (b ∷ rest)))))) (pos (digits_value 10 (cond t rest (drop (cond u 1 0) (b ∷ rest))))))
+
+    by : (t u : Bool) → signed t u text ≡ false → signed t u (text ++ others) ≡ false
+    by true u wide = below_wide (digits_value 10 text) (digits_value 10 (text ++ others)) (value_longer text others) wide
+    by false true wide = above_wide (digits_value 10 text) (digits_value 10 (text ++ others)) (value_longer text others) wide
+    by false false wide = above_wide (digits_value 10 (b ∷ text)) (digits_value 10 (b ∷ (text ++ others))) (value_longer (b ∷ text) others) wide
+
 -- a text of digits has no sign
 digit_no_minus : (c : ℕ) → digit_value c < 10 → eqb c 45 ≡ false
 digit_no_minus c h = grind (arith, nat_tests)
 
-unsigned_value : (text : List ℕ) → IsNumeral 10 text → signed_digits_value 10 text ≡ pos (digits_value 10 text)
+pub unsigned_value : (text : List ℕ) → IsNumeral 10 text → signed_digits_value 10 text ≡ pos (digits_value 10 text)
 unsigned_value [] is = absurd (omega (arith, is.0))
 unsigned_value (c ∷ text) is = rw (digit_no_minus c is.1.0) (ap (λ (t : List ℕ). pos (digits_value 10 t)) (by c text is))
   where
@@ -204,7 +233,7 @@ small_read bytes x e =
 digit_passes : (b : ℕ) → digit_value b < 10 → is_ascii_digit b ≡ true
 digit_passes b h = let range = digit_from_value b h in grind (arith, nat_tests)
 
-digits_pass : (text : List ℕ) → AllDigits 10 text → list_all is_ascii_digit text ≡ true
+pub digits_pass : (text : List ℕ) → AllDigits 10 text → list_all is_ascii_digit text ≡ true
 digits_pass [] all = refl
 digits_pass (c ∷ text) all = and_from _ _ (digit_passes c all.0) (digits_pass text all.1)
 
@@ -261,7 +290,7 @@ unfolding number_at
 number_text z text rest len value low =
     rw (len, take_at text rest (length text) refl, drop_at text rest (length text) refl, value, low) refl
 
-no_minus : (text rest : List ℕ) → IsNumeral 10 text → number_len (text ++ rest) ≡ natural_len (text ++ rest)
+pub no_minus : (text rest : List ℕ) → IsNumeral 10 text → number_len (text ++ rest) ≡ natural_len (text ++ rest)
 unfolding number_len
 no_minus [] rest is = absurd (omega (arith, is.0))
 no_minus (c ∷ text) rest is = rw (digit_no_minus c is.1.0) refl

@@ -13,5 +13,6 @@ pub mod RefusedTerms
 pub mod Steps
 pub mod Texts
 pub mod Utf8
+pub mod Wide
 pub mod Within
 pub mod Written

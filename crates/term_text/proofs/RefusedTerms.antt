@@ -13,7 +13,7 @@ use Rattle.term_text.specs.declared.fault.Fault.TheVariants.{Bad, WideInt, TooDe
 use Rattle.term_text.specs.declared.error.TextErr.TheVariants as refusals
 use Rattle.term_text.specs.Grammar.{begins, is_blank, is_name_byte, is_name, AreBlanks, Each, Blanked, Comma, Elements, IsQuoted, IsNarrow, IsByte, IsCharacter, IsText, AreTexts, MoreTexts}
 use Rattle.term_text.specs.Grammar as grammar
-use Rattle.term_text.specs.Places.{read, with_places}
+use Rattle.term_text.specs.Places.{left_of, read, with_places}
 use Rattle.term_text.specs.Reading.{◌>>=◌, refused, byte_at, unblanked, number_at, small_at, character_at, narrow_at, quoted_at, as_numbers, more_at, elements_at, inner_at, name_at, quoted_atom_at, may_begin_character, string_at, byte_string_at, bytes_at, binary_at, tuple_at, list_at, begun_at, may_begin_term, term_at}
 use Rattle.term_text.specs.Viable.{IsLate}
 use Rattle.term_text.proofs.Steps.{chosen, begun, byte_found, blanks_in}
@@ -50,25 +50,25 @@ following IsOne close x first is xs text (inner, are, whole) = (
   ap (λ (s : List ℕ). (first ++ 44 ∷ []) ++ s) (append-nil text ∙ whole) ∙ append_assoc first (44 ∷ []) (inner ++ close ∷ []) ∙ sym (append_assoc first (44 ∷ inner) (close ∷ [])),
 )
 
-more_refused : (close : ℕ) (bytes : List ℕ) (left : ℕ) → more_at close bytes ≡ Err (Bad left) → length bytes ≡ left
+more_refused : (close : ℕ) (bytes : List ℕ) (d : Fault) → more_at close bytes ≡ Err d → length bytes ≡ left_of d
 unfolding more_at
-more_refused close bytes left e = by (begins (λ b. b == 44) bytes) e
+more_refused close bytes d e = by (begins (λ b. b == 44) bytes) e
   where
-    by : (t : Bool) → cond {A = Result (Bool × List ℕ) Fault} t (Ok (true, drop 1 bytes)) (byte_at close bytes >>= λ rest. Ok (false, rest)) ≡ Err (Bad left) → length bytes ≡ left
+    by : (t : Bool) → cond {A = Result (Bool × List ℕ) Fault} t (Ok (true, drop 1 bytes)) (byte_at close bytes >>= λ rest. Ok (false, rest)) ≡ Err d → length bytes ≡ left_of d
     by true e = absurd cc
-    by false e = elim (bind_err (byte_at close bytes) (λ rest. Ok (false, rest)) (Bad left) e) [ inl h ↦ byte_refused close bytes left h | inr h ↦ absurd (let wrong = h.2 in cc) ]
+    by false e = elim (bind_err (byte_at close bytes) (λ rest. Ok (false, rest)) d e) [ inl h ↦ byte_refused close bytes d h | inr h ↦ absurd (let wrong = h.2 in cc) ]
 
 elements_refused : {A : Type 0} (IsOne : A → List ℕ → Type 0) (one : List ℕ → Result (A × List ℕ) Fault) → OneReads IsOne one → OneRefused IsOne one → (some : A) (text : List ℕ) → IsOne some text
-    → (close most : ℕ) (bytes : List ℕ) (left : ℕ) → elements_at one close most bytes ≡ Err (Bad left) → Stuck (ClosedElements close IsOne) bytes left
+    → (close most : ℕ) (bytes : List ℕ) (d : Fault) → elements_at one close most bytes ≡ Err d → Stuck (ClosedElements close IsOne) bytes (left_of d)
 unfolding elements_at
-elements_refused {A} IsOne one reads refuses some text is close zero bytes left e =
-    stuck_behind (ClosedElements close IsOne) [] bytes (text ++ close ∷ []) (some, []) left (alone IsOne close [] refl some text is) (refused_left {A = List A × List ℕ} bytes left e)
-elements_refused {A} IsOne one reads refuses some text is close (suc most) bytes left e =
-    elim (bind_err (one (unblanked bytes)) (λ first. more_at close (unblanked first.1) >>= next first) (Bad left) e) [
+elements_refused {A} IsOne one reads refuses some text is close zero bytes d e =
+    stuck_behind (ClosedElements close IsOne) [] bytes (text ++ close ∷ []) (some, []) (left_of d) (alone IsOne close [] refl some text is) (refused_left {A = List A × List ℕ} bytes d e)
+elements_refused {A} IsOne one reads refuses some text is close (suc most) bytes d e =
+    elim (bind_err (one (unblanked bytes)) (λ first. more_at close (unblanked first.1) >>= next first) d e) [
       | inl h ↦
           let before = blanks_in bytes in
-          stuck_cast (ClosedElements close IsOne) bytes (before.blanks ++ unblanked bytes) left before.parts
-          (stuck_within IsOne (ClosedElements close IsOne) before.blanks (close ∷ []) (λ x. (x, [])) (alone IsOne close before.blanks before.are) (unblanked bytes) left (refuses (unblanked bytes) left h))
+          stuck_cast (ClosedElements close IsOne) bytes (before.blanks ++ unblanked bytes) (left_of d) before.parts
+          (stuck_within IsOne (ClosedElements close IsOne) before.blanks (close ∷ []) (λ x. (x, [])) (alone IsOne close before.blanks before.are) (unblanked bytes) (left_of d) (refuses (unblanked bytes) d h))
       | inr h ↦
           let found = reads (unblanked bytes) h.0 h.1 in
           behind h.0 (blanked_read (IsOne h.0.0) bytes found.0 h.0.1 found.1 found.2) (elements_refused IsOne one reads refuses some text is close most) h.2
@@ -78,51 +78,51 @@ elements_refused {A} IsOne one reads refuses some text is close (suc most) bytes
     next first more = cond more.0 (elements_at one close most more.1 >>= λ others. Ok (first.0 ∷ others.0, others.1)) (Ok (first.0 ∷ [], more.1))
 
     others : (first : A × List ℕ) (m : Bool) (after : List ℕ) → BlankedRead (IsOne first.0) bytes (unblanked first.1) → unblanked first.1 ≡ cond m 44 close ∷ after
-        → ((mid : List ℕ) (n : ℕ) → elements_at one close most mid ≡ Err (Bad n) → Stuck (ClosedElements close IsOne) mid n) → next first (m, after) ≡ Err (Bad left) → Stuck (ClosedElements close IsOne) bytes left
+        → ((mid : List ℕ) (f : Fault) → elements_at one close most mid ≡ Err f → Stuck (ClosedElements close IsOne) mid (left_of f)) → next first (m, after) ≡ Err d → Stuck (ClosedElements close IsOne) bytes (left_of d)
     others first false after element mark again e = absurd cc
     others first true after element mark again e =
-        let refusal : elements_at one close most after ≡ Err (Bad left) = elim (bind_err (elements_at one close most after) (λ others. Ok (first.0 ∷ others.0, others.1)) (Bad left) e) [ inl k ↦ k | inr k ↦ absurd (let wrong = k.2 in cc) ] in
+        let refusal : elements_at one close most after ≡ Err d = elim (bind_err (elements_at one close most after) (λ others. Ok (first.0 ∷ others.0, others.1)) d e) [ inl k ↦ k | inr k ↦ absurd (let wrong = k.2 in cc) ] in
         let whole : bytes ≡ (element.text ++ 44 ∷ []) ++ after = element.parts ∙ ap (λ (s : List ℕ). element.text ++ s) mark ∙ sym (append_assoc element.text (44 ∷ []) after) in
-        stuck_cast (ClosedElements close IsOne) bytes ((element.text ++ 44 ∷ []) ++ after) left whole
-        (stuck_within (ClosedElements close IsOne) (ClosedElements close IsOne) (element.text ++ 44 ∷ []) [] (λ xs. (first.0, xs.0 ∷ xs.1)) (following IsOne close first.0 element.text element.is) after left (again after left refusal))
+        stuck_cast (ClosedElements close IsOne) bytes ((element.text ++ 44 ∷ []) ++ after) (left_of d) whole
+        (stuck_within (ClosedElements close IsOne) (ClosedElements close IsOne) (element.text ++ 44 ∷ []) [] (λ xs. (first.0, xs.0 ∷ xs.1)) (following IsOne close first.0 element.text element.is) after (left_of d) (again after d refusal))
 
-    behind : (first : A × List ℕ) → BlankedRead (IsOne first.0) bytes (unblanked first.1) → ((mid : List ℕ) (n : ℕ) → elements_at one close most mid ≡ Err (Bad n) → Stuck (ClosedElements close IsOne) mid n)
-        → (more_at close (unblanked first.1) >>= next first) ≡ Err (Bad left) → Stuck (ClosedElements close IsOne) bytes left
+    behind : (first : A × List ℕ) → BlankedRead (IsOne first.0) bytes (unblanked first.1) → ((mid : List ℕ) (f : Fault) → elements_at one close most mid ≡ Err f → Stuck (ClosedElements close IsOne) mid (left_of f))
+        → (more_at close (unblanked first.1) >>= next first) ≡ Err d → Stuck (ClosedElements close IsOne) bytes (left_of d)
     behind first element again e =
-        elim (bind_err (more_at close (unblanked first.1)) (next first) (Bad left) e) [
+        elim (bind_err (more_at close (unblanked first.1)) (next first) d e) [
           | inl k ↦
-              stuck_cast (ClosedElements close IsOne) bytes (element.text ++ unblanked first.1) left element.parts
-              (stuck_behind (ClosedElements close IsOne) element.text (unblanked first.1) (close ∷ []) (first.0, []) left (closing IsOne close first.0 element.text element.is) (more_refused close (unblanked first.1) left k))
+              stuck_cast (ClosedElements close IsOne) bytes (element.text ++ unblanked first.1) (left_of d) element.parts
+              (stuck_behind (ClosedElements close IsOne) element.text (unblanked first.1) (close ∷ []) (first.0, []) (left_of d) (closing IsOne close first.0 element.text element.is) (more_refused close (unblanked first.1) d k))
           | inr k ↦ others first k.0.0 k.0.1 element (more_read close (unblanked first.1) k.0 k.1) again k.2
         ]
 
 inner_refused : {A : Type 0} (IsOne : A → List ℕ → Type 0) (one : List ℕ → Result (A × List ℕ) Fault) → OneReads IsOne one → OneRefused IsOne one → (some : A) (text : List ℕ) → IsOne some text
-    → (close : ℕ) (bytes : List ℕ) (left : ℕ) → inner_at one close bytes ≡ Err (Bad left) → Stuck (ClosedList close IsOne) bytes left
+    → (close : ℕ) (bytes : List ℕ) (d : Fault) → inner_at one close bytes ≡ Err d → Stuck (ClosedList close IsOne) bytes (left_of d)
 unfolding inner_at
-inner_refused {A} IsOne one reads refuses some text is close bytes left e = by (begins (λ b. b == close) (unblanked bytes)) e
+inner_refused {A} IsOne one reads refuses some text is close bytes d e = by (begins (λ b. b == close) (unblanked bytes)) e
   where
     widen : (xs : A × List A) (t : List ℕ) → ClosedElements close IsOne xs t → ClosedList close IsOne (xs.0 ∷ xs.1) ([] ++ (t ++ []))
     widen xs t (inner, are, whole) = (inner, are, append-nil t ∙ whole)
 
-    by : (t : Bool) → cond t (Ok ([], drop 1 (unblanked bytes))) (elements_at one close (length bytes) bytes) ≡ Err (Bad left) → Stuck (ClosedList close IsOne) bytes left
+    by : (t : Bool) → cond t (Ok ([], drop 1 (unblanked bytes))) (elements_at one close (length bytes) bytes) ≡ Err d → Stuck (ClosedList close IsOne) bytes (left_of d)
     by true e = absurd cc
-    by false e = stuck_within (ClosedElements close IsOne) (ClosedList close IsOne) [] [] (λ xs. xs.0 ∷ xs.1) widen bytes left (elements_refused IsOne one reads refuses some text is close (length bytes) bytes left e)
+    by false e = stuck_within (ClosedElements close IsOne) (ClosedList close IsOne) [] [] (λ xs. xs.0 ∷ xs.1) widen bytes (left_of d) (elements_refused IsOne one reads refuses some text is close (length bytes) bytes d e)
 
 -- ---- atoms and strings
 
-quoted_atom_refused : (bytes : List ℕ) (left : ℕ) → quoted_atom_at bytes ≡ Err (Bad left) → Stuck IsText (39 ∷ bytes) left
+quoted_atom_refused : (bytes : List ℕ) (d : Fault) → quoted_atom_at bytes ≡ Err d → Stuck IsText (39 ∷ bytes) (left_of d)
 unfolding quoted_atom_at
-quoted_atom_refused bytes left e =
-    let refusal : quoted_at character_at 39 255 bytes ≡ Err (Bad left) = elim (bind_err (quoted_at character_at 39 255 bytes) (λ cs. Ok (atom (encode_utf8_all cs.0), cs.1)) (Bad left) e) [ inl h ↦ h | inr h ↦ absurd (let wrong = h.2 in cc) ] in
-    stuck_within (Closed 39 255 (IsCharacter 39)) IsText (39 ∷ []) [] (λ cs. atom (encode_utf8_all cs)) around bytes left
-    (quoted_refused (IsCharacter 39) character_at 39 (character_reads 39 (omega arith)) (character_refused (IsCharacter 39) (characters_have 39 (λ e. absurd (omega arith)))) 255 bytes left refusal)
+quoted_atom_refused bytes d e =
+    let refusal : quoted_at character_at 39 255 bytes ≡ Err d = elim (bind_err (quoted_at character_at 39 255 bytes) (λ cs. Ok (atom (encode_utf8_all cs.0), cs.1)) d e) [ inl h ↦ h | inr h ↦ absurd (let wrong = h.2 in cc) ] in
+    stuck_within (Closed 39 255 (IsCharacter 39)) IsText (39 ∷ []) [] (λ cs. atom (encode_utf8_all cs)) around bytes (left_of d)
+    (quoted_refused (IsCharacter 39) character_at 39 (character_reads 39 (omega arith)) (character_refused (IsCharacter 39) (characters_have 39 (λ e. absurd (omega arith)))) 255 bytes d refusal)
   where
     around : (cs text : List ℕ) → Closed 39 255 (IsCharacter 39) cs text → IsText (atom (encode_utf8_all cs)) (39 ∷ (text ++ []))
     around cs text (inner, each, whole, short) = grammar.quoted cs (inner, each, ap (λ (s : List ℕ). 39 ∷ s) (append-nil text ∙ whole)) short refl
 
-string_refused : (levels : ℕ) (bytes : List ℕ) (left : ℕ) → string_at levels bytes ≡ Err (Bad left) → Stuck IsText (34 ∷ bytes) left
+string_refused : (levels : ℕ) (bytes : List ℕ) (d : Fault) → string_at levels bytes ≡ Err d → Stuck IsText (34 ∷ bytes) (left_of d)
 unfolding string_at
-string_refused levels bytes left e = by ((levels == 0) && not (begins (λ b. b == 34) bytes) && begins may_begin_character bytes) e
+string_refused levels bytes d e = by ((levels == 0) && not (begins (λ b. b == 34) bytes) && begins may_begin_character bytes) e
   where
     end : List Tree × List ℕ → Result (Tree × List ℕ) Fault
     end ts = Ok (list (trees_of ts.0), ts.1)
@@ -130,15 +130,15 @@ string_refused levels bytes left e = by ((levels == 0) && not (begins (λ b. b =
     around : (cs text : List ℕ) → Closed 34 (length bytes) (IsCharacter 34) cs text → IsText (list (grammar.numbers cs)) (34 ∷ (text ++ []))
     around cs text (inner, each, whole, short) = inr (cs, (inner, each, ap (λ (s : List ℕ). 34 ∷ s) (append-nil text ∙ whole)), refl)
 
-    characters : quoted_at character_at 34 (length bytes) bytes ≡ Err (Bad left) → Stuck IsText (34 ∷ bytes) left
+    characters : quoted_at character_at 34 (length bytes) bytes ≡ Err d → Stuck IsText (34 ∷ bytes) (left_of d)
     characters refusal =
-        stuck_within (Closed 34 (length bytes) (IsCharacter 34)) IsText (34 ∷ []) [] (λ cs. list (grammar.numbers cs)) around bytes left
-        (quoted_refused (IsCharacter 34) character_at 34 (character_reads 34 (omega arith)) (character_refused (IsCharacter 34) (characters_have 34 (λ e. absurd (omega arith)))) (length bytes) bytes left refusal)
+        stuck_within (Closed 34 (length bytes) (IsCharacter 34)) IsText (34 ∷ []) [] (λ cs. list (grammar.numbers cs)) around bytes (left_of d)
+        (quoted_refused (IsCharacter 34) character_at 34 (character_reads 34 (omega arith)) (character_refused (IsCharacter 34) (characters_have 34 (λ e. absurd (omega arith)))) (length bytes) bytes d refusal)
 
-    by : (t : Bool) → cond t (Err (TooDeep (length bytes))) (as_numbers (quoted_at character_at 34 (length bytes) bytes) >>= end) ≡ Err (Bad left) → Stuck IsText (34 ∷ bytes) left
-    by true e = absurd cc
-    by false e = elim (bind_err (as_numbers (quoted_at character_at 34 (length bytes) bytes)) end (Bad left) e) [
-      | inl h ↦ elim (bind_err (quoted_at character_at 34 (length bytes) bytes) (λ cs. Ok (map (λ n. int (pos n)) cs.0, cs.1)) (Bad left) h) [ inl k ↦ characters k | inr k ↦ absurd (let wrong = k.2 in cc) ]
+    by : (t : Bool) → cond t (Err (TooDeep (length bytes))) (as_numbers (quoted_at character_at 34 (length bytes) bytes) >>= end) ≡ Err d → Stuck IsText (34 ∷ bytes) (left_of d)
+    by true e = stuck_behind IsText (34 ∷ []) bytes (34 ∷ []) (list (grammar.numbers [])) (left_of d) (inr ([], ([], refl, refl), refl)) (let same : TooDeep (length bytes) ≡ d = cc in ap left_of same)
+    by false e = elim (bind_err (as_numbers (quoted_at character_at 34 (length bytes) bytes)) end d e) [
+      | inl h ↦ elim (bind_err (quoted_at character_at 34 (length bytes) bytes) (λ cs. Ok (map (λ n. int (pos n)) cs.0, cs.1)) d h) [ inl k ↦ characters k | inr k ↦ absurd (let wrong = k.2 in cc) ]
       | inr h ↦ absurd (let wrong = h.2 in cc)
     ]
 
@@ -157,11 +157,11 @@ name_front k [] lower h = absurd cc
 name_front k (b ∷ rest) lower h = and_from _ _ lower (and_parts _ _ (front_part is_name_byte (suc k) (b ∷ rest) h)).1
 
 -- a name of 255 bytes and one more
-name_refused : (bytes : List ℕ) (left : ℕ) → begins is_ascii_lowercase bytes ≡ true → name_at bytes ≡ Err (Bad left) → Stuck IsText bytes left
+name_refused : (bytes : List ℕ) (d : Fault) → begins is_ascii_lowercase bytes ≡ true → name_at bytes ≡ Err d → Stuck IsText bytes (left_of d)
 unfolding name_at
-name_refused bytes left lower e = by (leb (prefix_len is_name_byte bytes) 255) refl e
+name_refused bytes d lower e = by (leb (prefix_len is_name_byte bytes) 255) refl e
   where
-    by : (t : Bool) → leb (prefix_len is_name_byte bytes) 255 ≡ t → cond {A = Result (Tree × List ℕ) Fault} t (Ok (atom (take (prefix_len is_name_byte bytes) bytes), drop (prefix_len is_name_byte bytes) bytes)) (refused (drop 255 bytes)) ≡ Err (Bad left) → Stuck IsText bytes left
+    by : (t : Bool) → leb (prefix_len is_name_byte bytes) 255 ≡ t → cond {A = Result (Tree × List ℕ) Fault} t (Ok (atom (take (prefix_len is_name_byte bytes) bytes), drop (prefix_len is_name_byte bytes) bytes)) (refused (drop 255 bytes)) ≡ Err d → Stuck IsText bytes (left_of d)
     by true h e = absurd cc
     by false h e =
         let long : 255 < prefix_len is_name_byte bytes = leb-false _ _ h in
@@ -169,7 +169,7 @@ name_refused bytes left lower e = by (leb (prefix_len is_name_byte bytes) 255) r
         let short : length (take 255 bytes) ≤ 255 = omega (arith, length-take 255 bytes) in
         let kept = take 255 bytes in
         let is : IsText (atom kept) (kept ++ []) = grammar.bare name short (append-nil kept) in
-        stuck_cast IsText bytes (kept ++ drop 255 bytes) left (sym (take-append-drop 255 bytes)) (stuck_behind IsText kept (drop 255 bytes) [] (atom kept) left is (refused_left {A = Tree × List ℕ} (drop 255 bytes) left e))
+        stuck_cast IsText bytes (kept ++ drop 255 bytes) (left_of d) (sym (take-append-drop 255 bytes)) (stuck_behind IsText kept (drop 255 bytes) [] (atom kept) (left_of d) is (refused_left {A = Tree × List ℕ} (drop 255 bytes) d e))
 
 -- ---- binaries
 
@@ -178,13 +178,13 @@ abbrev ClosedBytes : List ℕ → List ℕ → Type 0
 ClosedBytes b text = (inner : List ℕ) × (Elements IsByte b inner ⊎ Blanked (IsQuoted 34 IsNarrow b) inner) × (text ≡ inner ++ 62 ∷ [])
 
 -- behind the blanks and the quote
-in_string : (before bytes : List ℕ) (left : ℕ) → AreBlanks before → byte_string_at bytes ≡ Err (Bad left) → Stuck ClosedBytes (before ++ 34 ∷ bytes) left
+in_string : (before bytes : List ℕ) (d : Fault) → AreBlanks before → byte_string_at bytes ≡ Err d → Stuck ClosedBytes (before ++ 34 ∷ bytes) (left_of d)
 unfolding byte_string_at
-in_string before bytes left are e =
-    elim (bind_err (quoted_at narrow_at 34 (length bytes) bytes) end (Bad left) e) [
+in_string before bytes d are e =
+    elim (bind_err (quoted_at narrow_at 34 (length bytes) bytes) end d e) [
       | inl h ↦
-          stuck_cast ClosedBytes (before ++ 34 ∷ bytes) ((before ++ 34 ∷ []) ++ bytes) left (sym (append_assoc before (34 ∷ []) bytes))
-          (stuck_within (Closed 34 (length bytes) IsNarrow) ClosedBytes (before ++ 34 ∷ []) (62 ∷ []) (λ cs. cs) around bytes left (quoted_refused IsNarrow narrow_at 34 narrow_reads narrow_refused (length bytes) bytes left h))
+          stuck_cast ClosedBytes (before ++ 34 ∷ bytes) ((before ++ 34 ∷ []) ++ bytes) (left_of d) (sym (append_assoc before (34 ∷ []) bytes))
+          (stuck_within (Closed 34 (length bytes) IsNarrow) ClosedBytes (before ++ 34 ∷ []) (62 ∷ []) (λ cs. cs) around bytes (left_of d) (quoted_refused IsNarrow narrow_at 34 narrow_reads narrow_refused (length bytes) bytes d h))
       | inr h ↦
           let found = quoted_read IsNarrow narrow_at 34 narrow_reads (length bytes) bytes h.0 h.1 in
           let behind = blanks_in h.0.1 in
@@ -194,9 +194,9 @@ in_string before bytes left are e =
           let inside : 34 ∷ bytes ≡ quoted ++ h.0.1 = ap (λ (s : List ℕ). 34 ∷ s) (found.parts ∙ sym (append_assoc found.inner (34 ∷ []) h.0.1)) in
           let regrouped : before ++ (quoted ++ (behind.blanks ++ unblanked h.0.1)) ≡ text ++ unblanked h.0.1 = simp append_assoc in
           ap (λ (s : List ℕ). before ++ s) (inside ∙ ap (λ (s : List ℕ). quoted ++ s) behind.parts) ∙ regrouped in
-          let refusal : byte_at 62 (unblanked h.0.1) ≡ Err (Bad left) = elim (bind_err (byte_at 62 (unblanked h.0.1)) (λ rest. Ok (h.0.0, rest)) (Bad left) h.2) [ inl k ↦ k | inr k ↦ absurd (let wrong = k.2 in cc) ] in
-          stuck_cast ClosedBytes (before ++ 34 ∷ bytes) (text ++ unblanked h.0.1) left whole
-          (stuck_behind ClosedBytes text (unblanked h.0.1) (62 ∷ []) h.0.0 left (text, inr (before, quoted, behind.blanks, are, (found.inner, found.each, refl), behind.are, refl), refl) (byte_refused 62 (unblanked h.0.1) left refusal))
+          let refusal : byte_at 62 (unblanked h.0.1) ≡ Err d = elim (bind_err (byte_at 62 (unblanked h.0.1)) (λ rest. Ok (h.0.0, rest)) d h.2) [ inl k ↦ k | inr k ↦ absurd (let wrong = k.2 in cc) ] in
+          stuck_cast ClosedBytes (before ++ 34 ∷ bytes) (text ++ unblanked h.0.1) (left_of d) whole
+          (stuck_behind ClosedBytes text (unblanked h.0.1) (62 ∷ []) h.0.0 (left_of d) (text, inr (before, quoted, behind.blanks, are, (found.inner, found.each, refl), behind.are, refl), refl) (byte_refused 62 (unblanked h.0.1) d refusal))
     ]
   where
     end : List ℕ × List ℕ → Result (List ℕ × List ℕ) Fault
@@ -208,18 +208,18 @@ in_string before bytes left are e =
         let regrouped : (before ++ 34 ∷ []) ++ (text ++ 62 ∷ []) ≡ (before ++ (34 ∷ text ++ [])) ++ 62 ∷ [] = simp append_assoc in
         (before ++ (quoted ++ []), inr (before, quoted, [], are, (inner, each, refl), refl, refl), regrouped ∙ ap (λ (s : List ℕ). (before ++ (34 ∷ s ++ [])) ++ 62 ∷ []) whole)
 
-bytes_refused : (bytes : List ℕ) (left : ℕ) → bytes_at bytes ≡ Err (Bad left) → Stuck ClosedBytes bytes left
+bytes_refused : (bytes : List ℕ) (d : Fault) → bytes_at bytes ≡ Err d → Stuck ClosedBytes bytes (left_of d)
 unfolding bytes_at
-bytes_refused bytes left e = by (begins (λ b. b == 34) (unblanked bytes)) refl e
+bytes_refused bytes d e = by (begins (λ b. b == 34) (unblanked bytes)) refl e
   where
     widen : (b t : List ℕ) → ClosedList 62 IsByte b t → ClosedBytes b ([] ++ (t ++ []))
     widen b t (inner, are, whole) = (inner, inl are, append-nil t ∙ whole)
 
-    by : (t : Bool) → begins (λ b. b == 34) (unblanked bytes) ≡ t → cond t (byte_string_at (drop 1 (unblanked bytes))) (inner_at small_at 62 bytes) ≡ Err (Bad left) → Stuck ClosedBytes bytes left
+    by : (t : Bool) → begins (λ b. b == 34) (unblanked bytes) ≡ t → cond t (byte_string_at (drop 1 (unblanked bytes))) (inner_at small_at 62 bytes) ≡ Err d → Stuck ClosedBytes bytes (left_of d)
     by true here e =
         let before = blanks_in bytes in
-        stuck_cast ClosedBytes bytes (before.blanks ++ 34 ∷ drop 1 (unblanked bytes)) left (before.parts ∙ ap (λ (s : List ℕ). before.blanks ++ s) (begun 34 (unblanked bytes) here)) (in_string before.blanks (drop 1 (unblanked bytes)) left before.are e)
-    by false other e = stuck_within (ClosedList 62 IsByte) ClosedBytes [] [] (λ b. b) widen bytes left (inner_refused IsByte small_at small_reads small_refused 0 (48 ∷ []) byte_is 62 bytes left e)
+        stuck_cast ClosedBytes bytes (before.blanks ++ 34 ∷ drop 1 (unblanked bytes)) (left_of d) (before.parts ∙ ap (λ (s : List ℕ). before.blanks ++ s) (begun 34 (unblanked bytes) here)) (in_string before.blanks (drop 1 (unblanked bytes)) d before.are e)
+    by false other e = stuck_within (ClosedList 62 IsByte) ClosedBytes [] [] (λ b. b) widen bytes (left_of d) (inner_refused IsByte small_at small_reads small_refused 0 (48 ∷ []) byte_is 62 bytes d e)
 
 binary_kind : (b inner : List ℕ) → Elements IsByte b inner ⊎ Blanked (IsQuoted 34 IsNarrow b) inner → IsText (bin b) (60 ∷ 60 ∷ (inner ++ 62 ∷ 62 ∷ []))
 binary_kind b inner (inl are) = inl (inner, are, refl)
@@ -228,12 +228,12 @@ binary_kind b inner (inr is) = inr (inner, is, refl)
 empty_binary : IsText (bin []) (60 ∷ 60 ∷ 62 ∷ 62 ∷ [])
 empty_binary = inl ([], refl, refl)
 
-binary_refused : (bytes : List ℕ) (left : ℕ) → binary_at bytes ≡ Err (Bad left) → Stuck IsText (60 ∷ bytes) left
+binary_refused : (bytes : List ℕ) (d : Fault) → binary_at bytes ≡ Err d → Stuck IsText (60 ∷ bytes) (left_of d)
 unfolding binary_at
-binary_refused bytes left e =
-    elim (bind_err (byte_at 60 bytes) (λ inner. bytes_at inner >>= end) (Bad left) e) [
-      | inl h ↦ stuck_behind IsText (60 ∷ []) bytes (60 ∷ 62 ∷ 62 ∷ []) (bin []) left empty_binary (byte_refused 60 bytes left h)
-      | inr h ↦ stuck_cast IsText (60 ∷ bytes) (60 ∷ 60 ∷ h.0) left (ap (λ (s : List ℕ). 60 ∷ s) (byte_found 60 bytes h.0 h.1)) (inside h.0 h.2)
+binary_refused bytes d e =
+    elim (bind_err (byte_at 60 bytes) (λ inner. bytes_at inner >>= end) d e) [
+      | inl h ↦ stuck_behind IsText (60 ∷ []) bytes (60 ∷ 62 ∷ 62 ∷ []) (bin []) (left_of d) empty_binary (byte_refused 60 bytes d h)
+      | inr h ↦ stuck_cast IsText (60 ∷ bytes) (60 ∷ 60 ∷ h.0) (left_of d) (ap (λ (s : List ℕ). 60 ∷ s) (byte_found 60 bytes h.0 h.1)) (inside h.0 h.2)
     ]
   where
     end : List ℕ × List ℕ → Result (Tree × List ℕ) Fault
@@ -245,19 +245,19 @@ binary_refused bytes left e =
         let same : 60 ∷ 60 ∷ (inner ++ 62 ∷ 62 ∷ []) ≡ 60 ∷ 60 ∷ (text ++ 62 ∷ []) = ap (λ (s : List ℕ). 60 ∷ 60 ∷ s) (sym (append_assoc inner (62 ∷ []) (62 ∷ [])) ∙ ap (λ (s : List ℕ). s ++ 62 ∷ []) (sym whole)) in
         subst P same (binary_kind b inner is)
 
-    last : (inner : List ℕ) (found : List ℕ × List ℕ) → bytes_at inner ≡ Ok found → byte_at 62 found.1 ≡ Err (Bad left) → Stuck IsText (60 ∷ 60 ∷ inner) left
+    last : (inner : List ℕ) (found : List ℕ × List ℕ) → bytes_at inner ≡ Ok found → byte_at 62 found.1 ≡ Err d → Stuck IsText (60 ∷ 60 ∷ inner) (left_of d)
     last inner found read e =
         let is = bytes_is inner found read in
         let before : List ℕ = 60 ∷ 60 ∷ (is.inner ++ 62 ∷ []) in
         let whole : 60 ∷ 60 ∷ inner ≡ before ++ found.1 = ap (λ (s : List ℕ). 60 ∷ 60 ∷ s) (is.parts ∙ sym (append_assoc is.inner (62 ∷ []) found.1)) in
-        stuck_cast IsText (60 ∷ 60 ∷ inner) (before ++ found.1) left whole
-        (stuck_behind IsText before found.1 (62 ∷ []) (bin found.0) left (around found.0 (is.inner ++ 62 ∷ []) (is.inner, is.is, refl)) (byte_refused 62 found.1 left e))
+        stuck_cast IsText (60 ∷ 60 ∷ inner) (before ++ found.1) (left_of d) whole
+        (stuck_behind IsText before found.1 (62 ∷ []) (bin found.0) (left_of d) (around found.0 (is.inner ++ 62 ∷ []) (is.inner, is.is, refl)) (byte_refused 62 found.1 d e))
 
-    inside : (inner : List ℕ) → (bytes_at inner >>= end) ≡ Err (Bad left) → Stuck IsText (60 ∷ 60 ∷ inner) left
+    inside : (inner : List ℕ) → (bytes_at inner >>= end) ≡ Err d → Stuck IsText (60 ∷ 60 ∷ inner) (left_of d)
     inside inner e =
-        elim (bind_err (bytes_at inner) end (Bad left) e) [
-          | inl k ↦ stuck_within ClosedBytes IsText (60 ∷ 60 ∷ []) (62 ∷ []) (λ b. bin b) around inner left (bytes_refused inner left k)
-          | inr k ↦ elim (bind_err (byte_at 62 k.0.1) (λ rest. Ok (bin k.0.0, rest)) (Bad left) k.2) [ inl m ↦ last inner k.0 k.1 m | inr m ↦ absurd (let wrong = m.2 in cc) ]
+        elim (bind_err (bytes_at inner) end d e) [
+          | inl k ↦ stuck_within ClosedBytes IsText (60 ∷ 60 ∷ []) (62 ∷ []) (λ b. bin b) around inner (left_of d) (bytes_refused inner d k)
+          | inr k ↦ elim (bind_err (byte_at 62 k.0.1) (λ rest. Ok (bin k.0.0, rest)) d k.2) [ inl m ↦ last inner k.0 k.1 m | inr m ↦ absurd (let wrong = m.2 in cc) ]
         ]
 
 -- ---- tuples and lists
@@ -270,51 +270,51 @@ plain : (xs : List Tree) (text : List ℕ) → Elements IsText xs text → AreTe
 plain [] text are = are
 plain (x ∷ xs) text are = (are.0, are.1, are.2, more_plain xs are.1 are.3, are.4)
 
-tuple_refused : (one : List ℕ → Result (Tree × List ℕ) Fault) → OneReads IsText one → OneRefused IsText one → (bytes : List ℕ) (left : ℕ) → tuple_at one bytes ≡ Err (Bad left) → Stuck IsText (123 ∷ bytes) left
+tuple_refused : (one : List ℕ → Result (Tree × List ℕ) Fault) → OneReads IsText one → OneRefused IsText one → (bytes : List ℕ) (d : Fault) → tuple_at one bytes ≡ Err d → Stuck IsText (123 ∷ bytes) (left_of d)
 unfolding tuple_at
-tuple_refused one reads refuses bytes left e =
-    let refusal : inner_at one 125 bytes ≡ Err (Bad left) = elim (bind_err (inner_at one 125 bytes) (λ items. Ok (tuple (trees_of items.0), items.1)) (Bad left) e) [ inl k ↦ k | inr k ↦ absurd (let wrong = k.2 in cc) ] in
-    stuck_within (ClosedList 125 IsText) IsText (123 ∷ []) [] (λ xs. tuple (trees_of xs)) around bytes left (inner_refused IsText one reads refuses (int (pos 0)) (48 ∷ []) zero_is 125 bytes left refusal)
+tuple_refused one reads refuses bytes d e =
+    let refusal : inner_at one 125 bytes ≡ Err d = elim (bind_err (inner_at one 125 bytes) (λ items. Ok (tuple (trees_of items.0), items.1)) d e) [ inl k ↦ k | inr k ↦ absurd (let wrong = k.2 in cc) ] in
+    stuck_within (ClosedList 125 IsText) IsText (123 ∷ []) [] (λ xs. tuple (trees_of xs)) around bytes (left_of d) (inner_refused IsText one reads refuses (int (pos 0)) (48 ∷ []) zero_is 125 bytes d refusal)
   where
     around : (xs : List Tree) (text : List ℕ) → ClosedList 125 IsText xs text → IsText (tuple (trees_of xs)) (123 ∷ (text ++ []))
     around xs text (inner, are, whole) = (inner, plain xs inner are, ap (λ (s : List ℕ). 123 ∷ s) (append-nil text ∙ whole))
 
-list_refused : (one : List ℕ → Result (Tree × List ℕ) Fault) → OneReads IsText one → OneRefused IsText one → (bytes : List ℕ) (left : ℕ) → list_at one bytes ≡ Err (Bad left) → Stuck IsText (91 ∷ bytes) left
+list_refused : (one : List ℕ → Result (Tree × List ℕ) Fault) → OneReads IsText one → OneRefused IsText one → (bytes : List ℕ) (d : Fault) → list_at one bytes ≡ Err d → Stuck IsText (91 ∷ bytes) (left_of d)
 unfolding list_at
-list_refused one reads refuses bytes left e =
-    let refusal : inner_at one 93 bytes ≡ Err (Bad left) = elim (bind_err (inner_at one 93 bytes) (λ items. Ok (list (trees_of items.0), items.1)) (Bad left) e) [ inl k ↦ k | inr k ↦ absurd (let wrong = k.2 in cc) ] in
-    stuck_within (ClosedList 93 IsText) IsText (91 ∷ []) [] (λ xs. list (trees_of xs)) around bytes left (inner_refused IsText one reads refuses (int (pos 0)) (48 ∷ []) zero_is 93 bytes left refusal)
+list_refused one reads refuses bytes d e =
+    let refusal : inner_at one 93 bytes ≡ Err d = elim (bind_err (inner_at one 93 bytes) (λ items. Ok (list (trees_of items.0), items.1)) d e) [ inl k ↦ k | inr k ↦ absurd (let wrong = k.2 in cc) ] in
+    stuck_within (ClosedList 93 IsText) IsText (91 ∷ []) [] (λ xs. list (trees_of xs)) around bytes (left_of d) (inner_refused IsText one reads refuses (int (pos 0)) (48 ∷ []) zero_is 93 bytes d refusal)
   where
     around : (xs : List Tree) (text : List ℕ) → ClosedList 93 IsText xs text → IsText (list (trees_of xs)) (91 ∷ (text ++ []))
     around xs text (inner, are, whole) = inl (inner, plain xs inner are, ap (λ (s : List ℕ). 91 ∷ s) (append-nil text ∙ whole))
 
 -- ---- terms
 
-by_first : (k left : ℕ) (bytes : List ℕ) (here other : Result (Tree × List ℕ) Fault) → cond (begins (λ b. b == k) bytes) here other ≡ Err (Bad left)
-    → (here ≡ Err (Bad left) → Stuck IsText (k ∷ drop 1 bytes) left) → (other ≡ Err (Bad left) → Stuck IsText bytes left) → Stuck IsText bytes left
-by_first k left bytes here other e p q =
-    elim (chosen (begins (λ b. b == k) bytes) here other (Err (Bad left)) e) [
-      | inl h ↦ stuck_cast IsText bytes (k ∷ drop 1 bytes) left (begun k bytes h.0) (p h.1)
+by_first : (k : ℕ) (d : Fault) (bytes : List ℕ) (here other : Result (Tree × List ℕ) Fault) → cond (begins (λ b. b == k) bytes) here other ≡ Err d
+    → (here ≡ Err d → Stuck IsText (k ∷ drop 1 bytes) (left_of d)) → (other ≡ Err d → Stuck IsText bytes (left_of d)) → Stuck IsText bytes (left_of d)
+by_first k d bytes here other e p q =
+    elim (chosen (begins (λ b. b == k) bytes) here other (Err d) e) [
+      | inl h ↦ stuck_cast IsText bytes (k ∷ drop 1 bytes) (left_of d) (begun k bytes h.0) (p h.1)
       | inr h ↦ q h.1
     ]
 
 begun_refused : (levels : ℕ) (one : List ℕ → Result (Tree × List ℕ) Fault) → OneReads IsText one → OneRefused IsText one → OneRefused IsText (begun_at one levels)
 unfolding begun_at
-begun_refused levels one reads refuses bytes left e =
+begun_refused levels one reads refuses bytes d e =
     let rest : List ℕ = drop 1 bytes in
     let from_60 : Result (Tree × List ℕ) Fault = cond (begins (λ b. b == 60) bytes) (binary_at rest) (number_at bytes) in
     let from_91 : Result (Tree × List ℕ) Fault = cond (begins (λ b. b == 91) bytes) (list_at one rest) from_60 in
     let from_123 : Result (Tree × List ℕ) Fault = cond (begins (λ b. b == 123) bytes) (tuple_at one rest) from_91 in
     let from_34 : Result (Tree × List ℕ) Fault = cond (begins (λ b. b == 34) bytes) (string_at levels rest) from_123 in
     let from_39 : Result (Tree × List ℕ) Fault = cond (begins (λ b. b == 39) bytes) (quoted_atom_at rest) from_34 in
-    elim (chosen (begins is_ascii_lowercase bytes) (name_at bytes) from_39 (Err (Bad left)) e) [
-      | inl h ↦ name_refused bytes left h.0 h.1
+    elim (chosen (begins is_ascii_lowercase bytes) (name_at bytes) from_39 (Err d) e) [
+      | inl h ↦ name_refused bytes d h.0 h.1
       | inr h ↦
-          by_first 39 left bytes (quoted_atom_at rest) from_34 h.1 (quoted_atom_refused rest left) (λ e34.
-          by_first 34 left bytes (string_at levels rest) from_123 e34 (string_refused levels rest left) (λ e123.
-          by_first 123 left bytes (tuple_at one rest) from_91 e123 (tuple_refused one reads refuses rest left) (λ e91.
-          by_first 91 left bytes (list_at one rest) from_60 e91 (list_refused one reads refuses rest left) (λ e60.
-          by_first 60 left bytes (binary_at rest) (number_at bytes) e60 (binary_refused rest left) (number_refused bytes left)))))
+          by_first 39 d bytes (quoted_atom_at rest) from_34 h.1 (quoted_atom_refused rest d) (λ e34.
+          by_first 34 d bytes (string_at levels rest) from_123 e34 (string_refused levels rest d) (λ e123.
+          by_first 123 d bytes (tuple_at one rest) from_91 e123 (tuple_refused one reads refuses rest d) (λ e91.
+          by_first 91 d bytes (list_at one rest) from_60 e91 (list_refused one reads refuses rest d) (λ e60.
+          by_first 60 d bytes (binary_at rest) (number_at bytes) e60 (binary_refused rest d) (number_refused bytes d)))))
     ]
 
 texts_read : (levels : ℕ) → OneReads IsText (term_at levels)
@@ -322,12 +322,12 @@ texts_read levels bytes x e = let found = term_is levels bytes x e in (found.tex
 
 term_refused : (levels : ℕ) → OneRefused IsText (term_at levels)
 unfolding term_at
-term_refused zero bytes left e = by (begins may_begin_term bytes) e
+term_refused zero bytes d e = by (begins may_begin_term bytes) e
   where
-    by : (t : Bool) → cond {A = Result (Tree × List ℕ) Fault} t (Err (TooDeep (length bytes))) (refused bytes) ≡ Err (Bad left) → Stuck IsText bytes left
-    by true e = absurd cc
-    by false e = stuck_behind IsText [] bytes (48 ∷ []) (int (pos 0)) left zero_is (refused_left {A = Tree × List ℕ} bytes left e)
-term_refused (suc levels) bytes left e = begun_refused levels (term_at levels) (texts_read levels) (term_refused levels) bytes left e
+    by : (t : Bool) → cond {A = Result (Tree × List ℕ) Fault} t (Err (TooDeep (length bytes))) (refused bytes) ≡ Err d → Stuck IsText bytes (left_of d)
+    by true e = stuck_behind IsText [] bytes (48 ∷ []) (int (pos 0)) (left_of d) zero_is (let same : TooDeep (length bytes) ≡ d = cc in ap left_of same)
+    by false e = stuck_behind IsText [] bytes (48 ∷ []) (int (pos 0)) (left_of d) zero_is (refused_left {A = Tree × List ℕ} bytes d e)
+term_refused (suc levels) bytes d e = begun_refused levels (term_at levels) (texts_read levels) (term_refused levels) bytes d e
 
 -- ---- the places
 
@@ -337,12 +337,32 @@ with_places-Bad end (Err (Bad left)) place e = (left, refl, cc)
 with_places-Bad end (Err (WideInt left)) place e = absurd cc
 with_places-Bad end (Err (TooDeep left)) place e = absurd cc
 
-pub is_late : (text : List ℕ) (at place : ℕ) → at ≤ length text → read text at ≡ Err (refusals.Bad place) → IsLate text at place
-is_late text at place le e =
-    let refusal = with_places-Bad (length text) (term_at 100 (drop at text)) place e in
-    let stuck = term_refused 100 (drop at text) refusal.0 refusal.1 in
+pub with_places-WideInt : (end : ℕ) (r : Result (Tree × List ℕ) Fault) (place : ℕ) → with_places end r ≡ Err (refusals.WideInt place) → (left : ℕ) × (r ≡ Err (WideInt left)) × (end - left ≡ place)
+with_places-WideInt end (Ok x) place e = absurd cc
+with_places-WideInt end (Err (Bad left)) place e = absurd cc
+with_places-WideInt end (Err (WideInt left)) place e = (left, refl, cc)
+with_places-WideInt end (Err (TooDeep left)) place e = absurd cc
+
+pub with_places-TooDeep : (end : ℕ) (r : Result (Tree × List ℕ) Fault) (place : ℕ) → with_places end r ≡ Err (refusals.TooDeep place) → (left : ℕ) × (r ≡ Err (TooDeep left)) × (end - left ≡ place)
+with_places-TooDeep end (Ok x) place e = absurd cc
+with_places-TooDeep end (Err (Bad left)) place e = absurd cc
+with_places-TooDeep end (Err (WideInt left)) place e = absurd cc
+with_places-TooDeep end (Err (TooDeep left)) place e = (left, refl, cc)
+
+late : (text : List ℕ) (at place : ℕ) (d : Fault) → at ≤ length text → term_at 100 (drop at text) ≡ Err d → length text - left_of d ≡ place → IsLate text at place
+late text at place d le refusal there =
+    let stuck = term_refused 100 (drop at text) d refusal in
     let v = stuck.viable in
-    let size : length text - at ≡ length stuck.front + refusal.0 = sym (length-drop at text) ∙ ap length stuck.parts ∙ length-append stuck.front stuck.back ∙ ap (λ (n : ℕ). length stuck.front + n) stuck.size in
-    let count : place - at ≡ length stuck.front = omega (arith, size, refusal.2) in
+    let size : length text - at ≡ length stuck.front + left_of d = sym (length-drop at text) ∙ ap length stuck.parts ∙ length-append stuck.front stuck.back ∙ ap (λ (n : ℕ). length stuck.front + n) stuck.size in
+    let count : place - at ≡ length stuck.front = omega (arith, size, there) in
     let front : slice_range text at place ≡ stuck.front = ap (λ (n : ℕ). take n (drop at text)) count ∙ ap (take (length stuck.front)) stuck.parts ∙ take_at stuck.front stuck.back (length stuck.front) refl in
-    record { order = omega (arith, size, refusal.2); within = omega (arith, refusal.2); front = (v.kept, v.escape, v.more, v.value, front ∙ v.parts, v.open_end, v.is) }
+    record { order = omega (arith, size, there); within = omega (arith, there); front = (v.kept, v.escape, v.more, v.value, front ∙ v.parts, v.open_end, v.is) }
+
+pub is_late : (text : List ℕ) (at place : ℕ) → at ≤ length text → read text at ≡ Err (refusals.Bad place) → IsLate text at place
+is_late text at place le e = let refusal = with_places-Bad (length text) (term_at 100 (drop at text)) place e in late text at place (Bad refusal.0) le refusal.1 refusal.2
+
+pub is_late_wide : (text : List ℕ) (at place : ℕ) → at ≤ length text → read text at ≡ Err (refusals.WideInt place) → IsLate text at place
+is_late_wide text at place le e = let refusal = with_places-WideInt (length text) (term_at 100 (drop at text)) place e in late text at place (WideInt refusal.0) le refusal.1 refusal.2
+
+pub is_late_deep : (text : List ℕ) (at place : ℕ) → at ≤ length text → read text at ≡ Err (refusals.TooDeep place) → IsLate text at place
+is_late_deep text at place le e = let refusal = with_places-TooDeep (length text) (term_at 100 (drop at text)) place e in late text at place (TooDeep refusal.0) le refusal.1 refusal.2

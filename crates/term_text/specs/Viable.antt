@@ -1,7 +1,7 @@
 -- How texts of terms begin.
-use Rattle.std.specs.Prelude.{◌≡◌, ℕ, ◌≤◌, ◌⊎◌, Bool, false, List, [], ◌++◌, length, drop, codes, slice_range}
+use Rattle.std.specs.Prelude.{◌≡◌, ◌≢◌, ℕ, ◌^◌, ◌<◌, ◌≤◌, ◌⊎◌, Bool, false, List, [], ◌∷◌, ◌++◌, length, drop, codes, slice_index, slice_range}
 use Rattle.std.specs.Int.{is_in_range}
-use Rattle.std.specs.Str.Parse.{IsNumeral}
+use Rattle.std.specs.Str.Parse.{IsNumeral, digits_value}
 use Rattle.term_core.specs.Tree.{Tree, depth}
 use Rattle.term_text.specs.Grammar.{begins, IsText}
 
@@ -27,3 +27,9 @@ continues byte = is_in_range 128 191 byte
 -- What stands from this place on is no text of a term of at most 100 levels, whatever follows that continues no character.
 abbrev pub NoText : List ℕ → ℕ → Type 0
 NoText text at = (more : List ℕ) → begins continues more ≡ false → (t : Tree) → depth t ≤ 100 → IsText t (drop at text ++ more) → ⊥
+
+-- the text of a number that needs more than 128 bits: digits with no zero in front, and a `-` before them where it is below 0
+abbrev pub IsWide : List ℕ → Type 0
+IsWide text =
+    (digits : List ℕ) × IsNumeral 10 digits × (slice_index digits 0 ≢ 48)
+    × (((text ≡ digits) × (2 ^ 127 ≤ digits_value 10 digits)) ⊎ ((text ≡ 45 ∷ digits) × (2 ^ 127 < digits_value 10 digits)))

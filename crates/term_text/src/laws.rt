@@ -5,8 +5,8 @@ ghost use Rattle.term_core.specs.Tree.{Tree, depth};
 ghost use Rattle.term_text.specs.Grammar.{IsText, Stops};
 ghost use Rattle.term_core.specs.Kept.{IsKept};
 ghost use Rattle.term_text.specs.Places.{read};
-ghost use Rattle.term_text.specs.Viable.{IsLate, NoText};
-ghost use Rattle.term_text.specs.declared.error.TextErr.TheVariants.{Bad};
+ghost use Rattle.term_text.specs.Viable.{IsLate, IsWide, NoText};
+ghost use Rattle.term_text.specs.declared.error.TextErr.TheVariants.{Bad, TooDeep, WideInt};
 ghost use Rattle.term_text.specs.Printing.{printed};
 
 /// What is printed of a term is a text of it.
@@ -28,14 +28,26 @@ pub fn one_tree()
     ensures { (s t : Tree) (text : List ℕ) → IsText s text → IsText t text → s ≡ t }
 {}
 
-/// Where a text is refused as no text of a term, what stands before the place may go on as one.
-#[tactic(auto, using(crate::proofs::RefusedTerms::is_late))]
+/// Where a text is refused, what stands before the place may go on as a text of a term, of however many levels.
+#[tactic(auto, using(crate::proofs::RefusedTerms::is_late, crate::proofs::RefusedTerms::is_late_wide, crate::proofs::RefusedTerms::is_late_deep))]
 pub fn refused_late()
-    ensures { (text : List ℕ) (at place : ℕ) → at ≤ length text → read text at ≡ Err (Bad place) → IsLate text at place }
+    ensures bad { (text : List ℕ) (at place : ℕ) → at ≤ length text → read text at ≡ Err (Bad place) → IsLate text at place }
+    ensures wide { (text : List ℕ) (at place : ℕ) → at ≤ length text → read text at ≡ Err (WideInt place) → IsLate text at place }
+    ensures deep { (text : List ℕ) (at place : ℕ) → at ≤ length text → read text at ≡ Err (TooDeep place) → IsLate text at place }
 {}
 
-/// And with what stands at the place it may not, unless what follows continues a character that the text ends in.
-#[tactic(auto, using(crate::proofs::Cut::is_early))]
+/// And with what stands at the place it may not as one of at most 100 levels, unless what follows continues a character that the
+/// text ends in. Of a text that ends too early, which is `Bad` at its end, this is not said.
+#[tactic(auto, using(crate::proofs::Cut::is_early, crate::proofs::Cut::is_early_wide, crate::proofs::Cut::is_early_deep))]
 pub fn refused_early()
-    ensures { (text : List ℕ) (at place : ℕ) → at ≤ length text → read text at ≡ Err (Bad place) → place < length text → NoText text at }
+    ensures bad { (text : List ℕ) (at place : ℕ) → at ≤ length text → read text at ≡ Err (Bad place) → place < length text → NoText text at }
+    ensures wide { (text : List ℕ) (at place : ℕ) → at ≤ length text → read text at ≡ Err (WideInt place) → NoText text at }
+    ensures deep { (text : List ℕ) (at place : ℕ) → at ≤ length text → read text at ≡ Err (TooDeep place) → NoText text at }
+{}
+
+/// A number of more than 128 bits is refused at its first byte, which is its `-` where it has one, whatever stands before and
+/// behind it.
+#[tactic(auto, using(crate::proofs::Wide::wide_refused))]
+pub fn refused_wide()
+    ensures { (front text more : List ℕ) → IsWide text → read (front ++ (text ++ more)) (length front) ≡ Err (WideInt (length front)) }
 {}

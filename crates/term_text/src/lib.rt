@@ -14,7 +14,9 @@ mod reading;
 mod tokens;
 
 pub use error::TextErr;
-pub use laws::{one_tree, printed_is_read, printed_is_text, refused_early, refused_late};
+pub use laws::{
+    one_tree, printed_is_read, printed_is_text, refused_early, refused_late, refused_wide,
+};
 pub use printing::print_term;
 pub use reading::read_term;
 
