@@ -1,8 +1,9 @@
 -- A commit says which record it writes.
-use Rattle.std.proofs.Common.{◌≡◌, ℕ, zero, suc, ◌≤◌, List, [], ◌∷◌, Option, Some, None, Result, Ok, Err, refl, sym, ap, subst, ◌∙◌, lit≤, Bor}
+use Rattle.std.proofs.Common.{◌≡◌, ℕ, zero, suc, ◌^◌, ◌≤◌, List, [], ◌∷◌, length, Option, Some, None, Result, Ok, Err, refl, sym, ap, subst, ◌∙◌, Bor}
 use Rattle.std.specs.Prelude.{slice_get, MatchOption, IfOk, IsTrue, Bool, ◌↔◌}
 use Rattle.std.specs.Option.{option_map, option_copied}
-use Rattle.term_core.specs.Tree.{Tree, int, atom, tuple, list, bin, inner}
+use Rattle.term_core.specs.Tree.{Tree, inner, depth}
+use Rattle.term_core.specs.Written.{canon}
 use Rattle.term_core.specs.View.{tree_step, tree_of, forest_of}
 use Rattle.term_core.specs.declared.term.Term.{Term, Tuple, List as ListTerm}
 use Rattle.term_core.specs.declared.term.Term.TheFolds.{fold-roll-Term}
@@ -14,7 +15,7 @@ use Rattle.term_wire.specs.declared.error.WireErr.{WireErr}
 use Rattle.term_wire.specs.declared.error.WireErr.TheVariants.{Bad, Outside, WideInt, TooDeep, Memory}
 use Rattle.term_wire.proofs.Again.{one_tree}
 use Rattle.mn_run.specs.Commands.{row}
-use Rattle.mn_run.specs.Commits.{IsSimple, IsRow, commit_of, IsCommit, IsNoText, IsNoCommit, WritesNone, log_head, IsHead, tree_at, part}
+use Rattle.mn_run.specs.Commits.{IsRow, commit_of, IsCommit, IsNoText, IsNoCommit, WritesNone, log_head, IsHead, tree_at, part}
 
 -- ---- elements
 
@@ -92,14 +93,15 @@ head_result content t (Err e) found h = tt
 abbrev pub HasFields : Tree → Option (Tree × Tree) → Type 0
 HasFields commit fields = (key value : Tree) → commit ≡ commit_of (row key value) → fields ≡ Some (key, value)
 
-none_with : (commit : Tree) → ((key value : Tree) → IsSimple key → IsSimple value → commit ≡ commit_of (row key value) → ⊥) → WritesNone commit
-none_with commit never item is same = never is.key is.value is.simple_key is.simple_value (same ∙ ap commit_of is.is)
+none_with : (commit : Tree) → ((key value : Tree) → depth key ≤ 100 → depth value ≤ 100 → length (canon (row key value)) ≤ 2 ^ 26 → commit ≡ commit_of (row key value) → ⊥) → WritesNone commit
+none_with commit never item is same =
+    never is.key is.value is.key_levels is.value_levels (subst (λ r. length (canon r) ≤ 2 ^ 26) is.is is.short) (same ∙ ap commit_of is.is)
 
 never_some : (fields : Tree × Tree) → None ≡ Some fields → ⊥
 never_some fields h = absurd (cc)
 
 pub none_without : (commit : Tree) → HasFields commit None → WritesNone commit
-none_without commit has = none_with commit (λ key value k v same. never_some (key, value) (has key value same))
+none_without commit has = none_with commit (λ key value k v short same. never_some (key, value) (has key value same))
 
 -- two fields that are these two
 abbrev SameFields : (a b key value : Tree) → Type 0
@@ -111,16 +113,22 @@ first_is a b key value h = let pair : Tree × Tree = (a, b) in let other : Tree 
 second_is : (a b key value : Tree) → SameFields a b key value → value ≡ b
 second_is a b key value h = let pair : Tree × Tree = (a, b) in let other : Tree × Tree = (key, value) in sym (ap (λ (f : Tree × Tree). f.1) (some_is pair other h))
 
-pub none_by_key : (commit a b : Tree) → HasFields commit (Some (a, b)) → (IsSimple a → ⊥) → WritesNone commit
-none_by_key commit a b has not_simple = none_with commit (λ key value k v same. not_simple (subst IsSimple (first_is a b key value (has key value same)) k))
+pub none_by_key : (commit a b : Tree) → HasFields commit (Some (a, b)) → (depth a ≤ 100 → ⊥) → WritesNone commit
+none_by_key commit a b has deep =
+    none_with commit (λ key value k v short same. deep (subst (λ t. depth t ≤ 100) (first_is a b key value (has key value same)) k))
 
-pub none_by_value : (commit a b : Tree) → HasFields commit (Some (a, b)) → (IsSimple b → ⊥) → WritesNone commit
-none_by_value commit a b has not_simple = none_with commit (λ key value k v same. not_simple (subst IsSimple (second_is a b key value (has key value same)) v))
+pub none_by_value : (commit a b : Tree) → HasFields commit (Some (a, b)) → (depth b ≤ 100 → ⊥) → WritesNone commit
+none_by_value commit a b has deep =
+    none_with commit (λ key value k v short same. deep (subst (λ t. depth t ≤ 100) (second_is a b key value (has key value same)) v))
+
+-- the record of these two fields
+same_row : (a b key value : Tree) → SameFields a b key value → row key value ≡ row a b
+same_row a b key value h = λ i. row (first_is a b key value h i) (second_is a b key value h i)
+
+pub none_by_length : (commit item a b : Tree) → HasFields commit (Some (a, b)) → item ≡ row a b → (length (canon item) ≤ 2 ^ 26 → ⊥) → WritesNone commit
+none_by_length commit item a b has is long =
+    none_with commit (λ key value k v short same. long (subst (λ r. length (canon r) ≤ 2 ^ 26) (same_row a b key value (has key value same) ∙ sym is) short))
 
 pub none_by_rest : (commit made item a b : Tree) → HasFields commit (Some (a, b)) → item ≡ row a b → made ≡ commit_of item → (made ≡ commit → ⊥) → WritesNone commit
 none_by_rest commit made item a b has is built other =
-    none_with commit (λ key value k v same.
-    let e : SameFields a b key value = has key value same in
-    let first : key ≡ a = first_is a b key value e in
-    let second : value ≡ b = second_is a b key value e in
-    other (built ∙ ap commit_of (is ∙ (λ i. row (sym first i) (sym second i))) ∙ sym same))
+    none_with commit (λ key value k v short same. other (built ∙ ap commit_of (is ∙ sym (same_row a b key value (has key value same))) ∙ sym same))

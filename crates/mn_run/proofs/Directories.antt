@@ -1,10 +1,9 @@
 -- Every directory stands for a list of writes, or has no meaning from some place on.
-use Rattle.std.proofs.Common.{◌≡◌, ◌⊎◌, ℕ, ◌+◌, ◌^◌, ◌<◌, true, pos, negsuc, map, List, [], ◌∷◌, ◌++◌, length, take, Option, None, Some, Result, Ok, Err, refl, sym, ap, ◌∙◌, subst, inl, inr, arith}
+use Rattle.std.proofs.Common.{◌≡◌, ◌⊎◌, ℕ, ◌+◌, ◌^◌, ◌<◌, ◌≤◌, true, List, [], ◌∷◌, ◌++◌, length, take, Option, None, Some, Result, Ok, Err, refl, sym, ap, ◌∙◌, subst, inl, inr, arith}
 use Rattle.std.proofs.lemmas.Bool.{cases_Bool, cases_lt}
 use Rattle.std.proofs.lemmas.List.Elements.{All-cons, All-nil, All-head, All-tail}
-use Rattle.std.specs.Char.{is_ascii_lowercase}
-use Rattle.std.specs.List.{list_all}
-use Rattle.term_core.specs.Tree.{Tree, int, atom, tuple, list, bin}
+use Rattle.term_core.specs.Tree.{Tree, depth}
+use Rattle.term_core.specs.Written.{canon}
 use Rattle.term_core.specs.Order.{same_tree, same_tree_is}
 use Rattle.term_wire.specs.Decoding.{read}
 use Rattle.term_wire.specs.declared.error.WireErr.{WireErr}
@@ -16,7 +15,7 @@ use Rattle.term_wire.proofs.Texts.{text_bytes}
 use Rattle.log_items.specs.Items.{wire, log_bytes, AreContents}
 use Rattle.disk_logs.proofs.ClosedLogs.{closed_or_bad}
 use Rattle.mn_run.specs.Commands.{row}
-use Rattle.mn_run.specs.Commits.{IsSimple, IsRow, AreRows, IsCommit, IsNoText, IsNoCommit, AreCommits, AreItemsOf, IsHead, log_head, part, commit_of}
+use Rattle.mn_run.specs.Commits.{IsRow, AreRows, IsCommit, IsNoText, IsNoCommit, AreCommits, AreItemsOf, IsHead, log_head, part, commit_of}
 use Rattle.mn_run.specs.Files.{Files, latest, Stands, IsWrongFrom, NoMeaning}
 
 tree_or_not : (s t : Tree) → (s ≡ t) ⊎ (s ≡ t → ⊥)
@@ -43,24 +42,28 @@ text_or_not content t is_read = elim (bytes_or_not content) [
   | inr other ↦ inr (λ u text. other (text_bytes content u text))
 ]
 
--- ---- a field
+-- ---- a record
 
-simple_or_not : (field : Tree) → IsSimple field ⊎ (IsSimple field → ⊥)
-simple_or_not (int (pos n)) = elim (cases_lt n (2 ^ 31)) [ inl lt ↦ inl (record { sfits = lt }) | inr ge ↦ inr (λ h. omega (arith, h.sfits, ge)) ]
-simple_or_not (int (negsuc n)) = elim (cases_lt n (2 ^ 31)) [ inl lt ↦ inl (record { sfits = lt }) | inr ge ↦ inr (λ h. omega (arith, h.sfits, ge)) ]
-simple_or_not (atom text) = elim (cases_lt 0 (length text)) [
-  | inr none ↦ inr (λ h. omega (arith, h.0, none))
-  | inl some ↦ elim (cases_lt 32 (length text)) [
-    | inl long ↦ inr (λ h. omega (arith, h.1, long))
-    | inr short ↦ elim (cases_Bool (list_all is_ascii_lowercase text)) [
-      | inl letters ↦ inl (some, short, letters)
-      | inr other ↦ inr (λ h. let letters = h.2 in cc (letters, other))
+within_or_not : (n most : ℕ) → (n ≤ most) ⊎ (n ≤ most → ⊥)
+within_or_not n most = elim (cases_lt most n) [ inl over ↦ inr (λ h. omega (arith, h, over)) | inr within ↦ inl within ]
+
+-- the fields make a record
+record HaveBounds (key value : Tree) : Type 0 where
+  key_levels : depth key ≤ 100
+  value_levels : depth value ≤ 100
+  short : length (canon (row key value)) ≤ 2 ^ 26
+
+bounds_or_not : (key value : Tree) → HaveBounds key value ⊎ (HaveBounds key value → ⊥)
+bounds_or_not key value = elim (within_or_not (depth key) 100) [
+  | inr deep ↦ inr (λ h. deep h.key_levels)
+  | inl key_levels ↦ elim (within_or_not (depth value) 100) [
+    | inr deep ↦ inr (λ h. deep h.value_levels)
+    | inl value_levels ↦ elim (within_or_not (length (canon (row key value))) (2 ^ 26)) [
+      | inr long ↦ inr (λ h. long h.short)
+      | inl short ↦ inl (record { key_levels = key_levels; value_levels = value_levels; short = short })
     ]
   ]
 ]
-simple_or_not (tuple ts) = inr (λ h. h)
-simple_or_not (list ts) = inr (λ h. h)
-simple_or_not (bin bytes) = inr (λ h. h)
 
 -- ---- a commit
 
@@ -89,14 +92,11 @@ module _ (content : List ℕ) (commit : Tree) (found : IsText content commit) wh
   by_fields : (key value : Option Tree) → field_of 1 commit ≡ key → field_of 2 commit ≡ value → IsSomeCommit content ⊎ IsNoCommit content
   by_fields None value k v = inr (λ item is text. let some = key_of_row item is text in cc (some, k))
   by_fields (Some key) None k v = inr (λ item is text. let some = value_of_row item is text in cc (some, v))
-  by_fields (Some key) (Some value) k v = elim (simple_or_not key) [
-    | inr other ↦ inr (λ item is text. other (subst IsSimple (sym (key_is item is text)) is.simple_key))
-    | inl simple_key ↦ elim (simple_or_not value) [
-      | inr other ↦ inr (λ item is text. other (subst IsSimple (sym (value_is item is text)) is.simple_value))
-      | inl simple_value ↦ elim (tree_or_not commit (commit_of (row key value))) [
-        | inl same ↦ inl (row key value, record { key = key; value = value; is = refl; simple_key = simple_key; simple_value = simple_value }, subst (IsText content) same found)
-        | inr other ↦ inr (λ item is text. other (one_tree content commit (commit_of item) found text ∙ ap commit_of (is.is ∙ (λ i. row (sym (key_is item is text) i) (sym (value_is item is text) i)))))
-      ]
+  by_fields (Some key) (Some value) k v = elim (bounds_or_not key value) [
+    | inr other ↦ inr (λ item is text. other (have item is text))
+    | inl bounds ↦ elim (tree_or_not commit (commit_of (row key value))) [
+      | inl same ↦ inl (row key value, record { key = key; value = value; is = refl; key_levels = bounds.key_levels; value_levels = bounds.value_levels; short = bounds.short }, subst (IsText content) same found)
+      | inr other ↦ inr (λ item is text. other (one_tree content commit (commit_of item) found text ∙ ap commit_of (row_is item is text)))
     ]
   ]
     where
@@ -105,6 +105,16 @@ module _ (content : List ℕ) (commit : Tree) (found : IsText content commit) wh
 
       value_is : (item : Tree) (is : IsRow item) → IsCommit content item → value ≡ is.value
       value_is item is text = tree_is value is.value (sym v ∙ value_of_row item is text)
+
+      row_is : (item : Tree) (is : IsRow item) → IsCommit content item → item ≡ row key value
+      row_is item is text = is.is ∙ (λ i. row (sym (key_is item is text) i) (sym (value_is item is text) i))
+
+      have : (item : Tree) (is : IsRow item) → IsCommit content item → HaveBounds key value
+      have item is text = record {
+        key_levels = subst (λ t. depth t ≤ 100) (sym (key_is item is text)) is.key_levels;
+        value_levels = subst (λ t. depth t ≤ 100) (sym (value_is item is text)) is.value_levels;
+        short = subst (λ t. length (canon t) ≤ 2 ^ 26) (row_is item is text) is.short;
+      }
 
 -- the tree that a content is a text of, or none
 some_text : (content : List ℕ) → ((t : Tree) × IsText content t) ⊎ IsNoText content

@@ -1,5 +1,5 @@
 -- What the log keeps.
-use Rattle.std.proofs.Common.{◌≡◌, Bool, true, false, ℕ, List, [], ◌++◌, Some, refl, sym, subst, inl, inr, append-nil}
+use Rattle.std.proofs.Common.{◌≡◌, Bool, ℕ, List, ◌++◌, Some, sym, subst, inr}
 use Rattle.term_core.specs.Tree.{Tree}
 use Rattle.file_trait.specs.DiskModel.{Past, reads}
 use Rattle.log_items.specs.Items.{log_bytes, AreContents}

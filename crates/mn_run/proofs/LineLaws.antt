@@ -1,78 +1,53 @@
 -- Which lines are commands, and where the others are refused.
-use Rattle.std.proofs.Common.{◌≡◌, ℕ, suc, ◌+◌, ◌-◌, ◌<◌, ◌≤◌, Bool, true, false, cond, eqb, pos, negsuc, zero, ◌⊎◌, List, [], ◌∷◌, ◌++◌, length, take, drop, Option, Some, Result, Ok, Err, refl, sym, ap, subst, ◌∙◌, append_assoc, length-append, arith, inl, inr, codes}
-use Rattle.std.proofs.lemmas.Bool.{eqb-true, eq-eqb}
-use Rattle.std.proofs.lemmas.List.{take_at, drop_at, append-nil}
-use Rattle.std.specs.Char.{is_ascii_digit, is_ascii_lowercase}
-use Rattle.term_core.specs.Tree.{Tree, int, atom, tuple, list, bin}
-use Rattle.mn_run.specs.Orders.{Order, start, put, get, bad, stop}
-use Rattle.mn_run.specs.Commands.{◌>>=◌, text_at, at_end, row, put_at, get_at, command_at, is_later, ordered, order_of}
-use Rattle.mn_run.specs.Grammar.{IsField, IsCommand, IsFront, IsBeforeField, IsLarge, LargeBegins, IsPlace, IsMeant}
+use Rattle.std.proofs.Common.{◌≡◌, ℕ, ◌+◌, ◌-◌, ◌<◌, ◌≤◌, Bool, true, false, cond, eqb, pos, ◌⊎◌, List, [], ◌∷◌, ◌++◌, length, take, Some, Result, Ok, Err, refl, sym, ap, subst, ◌∙◌, append_assoc, append-nil, length-append, arith, inl, inr, codes, lit≤}
 use Rattle.std.specs.Bool.{MatchBool}
-use Rattle.mn_run.proofs.Fields.{Stops, field_again, field_large, some_name}
-use Rattle.mn_run.proofs.Refusals.{Why, more_due, other_byte, too_large, Refusal}
-use Rattle.mn_run.proofs.Readers.{Done, Refuses, IsReader, AtEnd, NoneLarge, end_reader, Behind, behind, Moves, text_reader, BehindField, behind_field, MovesField, field_reader}
+use Rattle.std.proofs.lemmas.Bool.{eqb-true, eq-eqb}
+use Rattle.std.proofs.lemmas.List.{take_at}
+use Rattle.term_core.specs.Tree.{Tree, int}
+use Rattle.term_text.specs.Grammar.{Stops}
+use Rattle.term_text.proofs.Refused.{zero_is}
+use Rattle.mn_run.specs.Orders.{Order, start, put, get, bad, stop}
+use Rattle.mn_run.specs.Commands.{◌>>=◌, text_at, at_end, row, put_at, get_at, field_at, command_at, is_later, ordered, order_of}
+use Rattle.mn_run.specs.Grammar.{IsField, IsCommand, IsFront, IsBeforeField, IsWrongField, IsWrongByte, IsPlace, IsMeant, NoCommand}
+use Rattle.mn_run.proofs.Fields.{stops_at_end, stops_at_comma, stops_at_brace, field_again, field_within, field_placed, field_wrong, field_stays}
+use Rattle.mn_run.proofs.Refusals.{Why, more_due, other_byte, Refusal, at_byte, in_field, bind_ok}
+use Rattle.mn_run.proofs.Readers.{Done, Refuses, IsReader, AtEnd, NoField, end_reader, Behind, behind, Moves, text_reader, BehindField, behind_field, Follows, MovesField, field_reader}
 
--- ---- what stands behind a key or a value
+-- ---- what stands before a key or a value
 
-stops_at_end : (t : Tree) → Stops t []
-stops_at_end (int (pos zero)) = tt
-stops_at_end (int (pos (suc n))) = tt
-stops_at_end (int (negsuc n)) = tt
-stops_at_end (atom name) = tt
-stops_at_end (tuple ts) = tt
-stops_at_end (list ts) = tt
-stops_at_end (bin bytes) = tt
+-- at once, or behind a key and a comma
+abbrev BeforeFields : List ℕ → Type 0
+BeforeFields front = (front ≡ []) ⊎ ((k : List ℕ) × (key : Tree) × IsField k key × (front ≡ k ++ codes ","))
 
-stops_at_byte : (t : Tree) (c : ℕ) (rest : List ℕ) → is_ascii_digit c ≡ false → is_ascii_lowercase c ≡ false → Stops t (c ∷ rest)
-stops_at_byte (int (pos zero)) c rest digit letter = tt
-stops_at_byte (int (pos (suc n))) c rest digit letter = digit
-stops_at_byte (int (negsuc n)) c rest digit letter = digit
-stops_at_byte (atom name) c rest digit letter = letter
-stops_at_byte (tuple ts) c rest digit letter = tt
-stops_at_byte (list ts) c rest digit letter = tt
-stops_at_byte (bin bytes) c rest digit letter = tt
+abbrev IsNothing : List ℕ → Type 0
+IsNothing front = front ≡ []
 
--- ---- where a number that is too large may begin
+abbrev IsComma : List ℕ → Type 0
+IsComma front = front ≡ codes ","
 
-abbrev BeginsLarge : List ℕ → Type 0
-BeginsLarge rest = (text more : List ℕ) × IsLarge text × (rest ≡ text ++ more)
+last_field : MovesField (λ t. NoField) IsNothing
+last_field = record { here = refl; there = λ text t front is none. absurd none }
 
--- at once
-abbrev LargeHere : List ℕ → List ℕ → Type 0
-LargeHere front rest = (front ≡ []) × BeginsLarge rest
+fields : MovesField (λ t. IsComma) BeforeFields
+fields = record { here = inl refl; there = λ text t front is comma. inr (text, t, is, ap (λ (x : List ℕ). text ++ x) comma) }
 
--- behind a comma
-abbrev LargeBehindComma : List ℕ → List ℕ → Type 0
-LargeBehindComma front rest = (front ≡ codes ",") × BeginsLarge rest
+none_moves : (text : List ℕ) → Moves text NoField NoField
+none_moves text front none = absurd none
 
--- at once, or behind a field and a comma
-abbrev LargeFields : List ℕ → List ℕ → Type 0
-LargeFields front rest = ((front ≡ []) ⊎ ((k : List ℕ) × (key : Tree) × IsField k key × (front ≡ k ++ codes ","))) × BeginsLarge rest
+comma_moves : Moves (codes ",") IsNothing IsComma
+comma_moves front none = ap (λ (x : List ℕ). codes "," ++ x) none
 
-last_field : MovesField (λ t. NoneLarge) LargeHere
-last_field = record { here = λ text more rest large parts. (refl, (text, more, large, parts)); there = λ text t front rest is none. absurd none }
+get_moves : Moves (codes "get t ") IsNothing IsBeforeField
+get_moves front none = inl (ap (λ (x : List ℕ). codes "get t " ++ x) none)
 
-fields : MovesField (λ t. LargeBehindComma) LargeFields
-fields = record {
-  here = λ text more rest large parts. (inl refl, (text, more, large, parts));
-  there = λ text t front rest is large. (inr (text, t, is, ap (λ (x : List ℕ). text ++ x) large.0), large.1);
-}
-
-none_moves : (text : List ℕ) → Moves text NoneLarge NoneLarge
-none_moves text front rest none = absurd none
-
-comma_moves : Moves (codes ",") LargeHere LargeBehindComma
-comma_moves front rest large = (ap (λ (x : List ℕ). codes "," ++ x) large.0, large.1)
-
-get_moves : Moves (codes "get t ") LargeHere LargeBegins
-get_moves front rest (none, (text, more, large, parts)) = (inl (ap (λ (x : List ℕ). codes "get t " ++ x) none), text, more, large, parts)
-
-put_moves : Moves (codes "put t {t,") LargeFields LargeBegins
-put_moves front rest (inl none, (text, more, large, parts)) = (inr (inl (ap (λ (x : List ℕ). codes "put t {t," ++ x) none)), text, more, large, parts)
-put_moves front rest (inr (k, key, is, begins), (text, more, large, parts)) =
-    (inr (inr (k, key, is, ap (λ (x : List ℕ). codes "put t {t," ++ x) begins)), text, more, large, parts)
+put_moves : Moves (codes "put t {t,") BeforeFields IsBeforeField
+put_moves front (inl none) = inr (inl (ap (λ (x : List ℕ). codes "put t {t," ++ x) none))
+put_moves front (inr (k, key, is, begins)) = inr (inr (k, key, is, ap (λ (x : List ℕ). codes "put t {t," ++ x) begins))
 
 -- ---- `get t K`
+
+some_field : IsField (codes "0") (int (pos 0))
+some_field = (zero_is, lit≤ tt)
 
 abbrev GetEnd : Tree → List ℕ → Order → Type 0
 GetEnd key = AtEnd (get key)
@@ -80,14 +55,14 @@ GetEnd key = AtEnd (get key)
 abbrev GetLine : List ℕ → Order → Type 0
 GetLine = Behind (codes "get t ") (BehindField GetEnd)
 
-get_ends : (key : Tree) (rest : List ℕ) (order : Order) → GetEnd key rest order → Stops key rest
-get_ends key rest order h = subst (λ (x : List ℕ). Stops key x) (sym h.0) (stops_at_end key)
+get_ends : Follows GetEnd
+get_ends key text rest order h = subst (λ (x : List ℕ). Stops key text x) (sym h.0) (stops_at_end key text)
 
-get_reader : IsReader get_at GetLine LargeBegins
+get_reader : IsReader get_at GetLine IsBeforeField
 unfolding get_at
 get_reader =
-    text_reader (codes "get t ") (behind_field (λ key. at_end (get key))) (BehindField GetEnd) LargeHere LargeBegins get_moves
-    (field_reader (λ key. at_end (get key)) GetEnd (λ key. NoneLarge) LargeHere (λ key. end_reader (get key)) get_ends last_field (codes "a") (atom (codes "a")) (some_name, refl))
+    text_reader (codes "get t ") (behind_field (λ key. at_end (get key))) (BehindField GetEnd) IsNothing IsBeforeField get_moves
+    (field_reader (λ key. at_end (get key)) GetEnd (λ key. NoField) IsNothing (λ key. end_reader (get key)) get_ends last_field (codes "0") (int (pos 0)) some_field)
 
 -- ---- `put t {t,K,V}`
 
@@ -106,24 +81,24 @@ put_value key = behind (codes ",") (behind_field (put_end key))
 abbrev PutLine : List ℕ → Order → Type 0
 PutLine = Behind (codes "put t {t,") (BehindField PutValue)
 
-value_ends : (key value : Tree) (rest : List ℕ) (order : Order) → PutEnd key value rest order → Stops value rest
-value_ends key value rest order h = subst (λ (x : List ℕ). Stops value x) (sym h.1) (stops_at_byte value 125 h.0 refl refl)
+value_ends : (key : Tree) → Follows (PutEnd key)
+value_ends key value text rest order h = subst (λ (x : List ℕ). Stops value text x) (sym h.1) (stops_at_brace value text h.0)
 
-key_ends : (key : Tree) (rest : List ℕ) (order : Order) → PutValue key rest order → Stops key rest
-key_ends key rest order h = subst (λ (x : List ℕ). Stops key x) (sym h.1) (stops_at_byte key 44 h.0 refl refl)
+key_ends : Follows PutValue
+key_ends key text rest order h = subst (λ (x : List ℕ). Stops key text x) (sym h.1) (stops_at_comma key text h.0)
 
-value_reader : (key : Tree) → IsReader (put_value key) (PutValue key) LargeBehindComma
+value_reader : (key : Tree) → IsReader (put_value key) (PutValue key) IsComma
 value_reader key =
-    text_reader (codes ",") (behind_field (put_end key)) (BehindField (PutEnd key)) LargeHere LargeBehindComma comma_moves
-    (field_reader (put_end key) (PutEnd key) (λ value. NoneLarge) LargeHere
-    (λ value. text_reader (codes "}") (at_end (put (row key value))) (AtEnd (put (row key value))) NoneLarge NoneLarge (none_moves (codes "}")) (end_reader (put (row key value))))
-    (value_ends key) last_field (codes "a") (atom (codes "a")) (some_name, refl))
+    text_reader (codes ",") (behind_field (put_end key)) (BehindField (PutEnd key)) IsNothing IsComma comma_moves
+    (field_reader (put_end key) (PutEnd key) (λ value. NoField) IsNothing
+    (λ value. text_reader (codes "}") (at_end (put (row key value))) (AtEnd (put (row key value))) NoField NoField (none_moves (codes "}")) (end_reader (put (row key value))))
+    (value_ends key) last_field (codes "0") (int (pos 0)) some_field)
 
-put_reader : IsReader put_at PutLine LargeBegins
+put_reader : IsReader put_at PutLine IsBeforeField
 unfolding put_at
 put_reader =
-    text_reader (codes "put t {t,") (behind_field put_value) (BehindField PutValue) LargeFields LargeBegins put_moves
-    (field_reader put_value PutValue (λ key. LargeBehindComma) LargeFields value_reader key_ends fields (codes "a") (atom (codes "a")) (some_name, refl))
+    text_reader (codes "put t {t,") (behind_field put_value) (BehindField PutValue) BeforeFields IsBeforeField put_moves
+    (field_reader put_value PutValue (λ key. IsComma) BeforeFields value_reader key_ends fields (codes "0") (int (pos 0)) some_field)
 
 -- ---- as the grammar says it
 
@@ -191,32 +166,23 @@ first_stays b line (d ∷ front) c after tail parts read same =
     let head : d ≡ b = cc in subst (λ (x : ℕ). command_at (x ∷ (front ++ c ∷ tail)) ≡ read (x ∷ (front ++ c ∷ tail))) (sym head) (same (front ++ c ∷ tail))
 
 abbrev CommandRefused : List ℕ → ℕ → Type 0
-CommandRefused = Refusal (Done IsCommand) LargeBegins (Refuses command_at)
+CommandRefused = Refusal (Done IsCommand) IsBeforeField (Refuses command_at)
 
-refusal : (b : ℕ) (line : List ℕ) (left : ℕ) (read : List ℕ → Result Order ℕ) (Line : List ℕ → Order → Type 0) → ((text : List ℕ) (order : Order) → Line text order → IsCommand text order) → ((more : List ℕ) → command_at (b ∷ more) ≡ read (b ∷ more)) → Refusal (Done Line) LargeBegins (Refuses read) (b ∷ line) left → CommandRefused (b ∷ line) left
-refusal b line left read Line is same r = record {
-  front = r.front;
-  rest = r.rest;
-  parts = r.parts;
-  counted = r.counted;
-  tail = r.tail;
-  completes = (r.completes.0, is (r.front ++ r.tail) r.completes.0 r.completes.1);
-  why = reason r.why;
-}
+refusal : (b : ℕ) (line : List ℕ) (left : ℕ) (read : List ℕ → Result Order ℕ) (Line : List ℕ → Order → Type 0) → ((text : List ℕ) (order : Order) → Line text order → IsCommand text order) → ((more : List ℕ) → command_at (b ∷ more) ≡ read (b ∷ more)) → Refusal (Done Line) IsBeforeField (Refuses read) (b ∷ line) left → CommandRefused (b ∷ line) left
+refusal b line left read Line is same (at_byte front rest tail parts counted completes why) = at_byte front rest tail parts counted (completes.0, is (front ++ tail) completes.0 completes.1) (reason why)
   where
-    reason : Why LargeBegins (Refuses read) r.front r.rest → Why LargeBegins (Refuses command_at) r.front r.rest
+    reason : Why (Refuses read) front rest → Why (Refuses command_at) front rest
     reason (more_due none) = more_due none
-    reason (other_byte c after parts refuses) =
-        other_byte c after parts (λ tail. first_stays b line r.front c after tail (r.parts ∙ ap (λ (x : List ℕ). r.front ++ x) parts) read same ∙ refuses tail)
-    reason (too_large large) = too_large large
+    reason (other_byte c after inner refuses) =
+        other_byte c after inner (λ tail. first_stays b line front c after tail (parts ∙ ap (λ (x : List ℕ). front ++ x) inner) read same ∙ refuses tail)
+refusal b line left read Line is same (in_field front rest parts before e) = in_field front rest parts before e
 
-some_get : Done IsCommand (codes "get t " ++ codes "a")
-some_get = (get (atom (codes "a")), (codes "a", (some_name, refl), refl))
+some_get : Done IsCommand (codes "get t " ++ codes "0")
+some_get = (get (int (pos 0)), (codes "0", some_field, refl))
 
 pub command_refused : (line : List ℕ) (left : ℕ) → command_at line ≡ Err left → CommandRefused line left
 unfolding command_at
-command_refused [] left e =
-    record { front = []; rest = []; parts = refl; counted = cc; tail = codes "get t " ++ codes "a"; completes = some_get; why = more_due refl }
+command_refused [] left e = at_byte [] [] (codes "get t " ++ codes "0") refl (cc) some_get (more_due refl)
 command_refused (b ∷ line) left e = by (eqb b 112) (eqb b 103) refl refl e
   where
     by : (t u : Bool) → eqb b 112 ≡ t → eqb b 103 ≡ u → cond t (put_at (b ∷ line)) (cond u (get_at (b ∷ line)) (Err (length (b ∷ line)))) ≡ Err left → CommandRefused (b ∷ line) left
@@ -226,20 +192,14 @@ command_refused (b ∷ line) left e = by (eqb b 112) (eqb b 103) refl refl e
     by false true p g e =
         let same = eqb-true b 103 g in
         refusal b line left get_at GetLine get_is_command (λ more. ap (λ (x : ℕ). command_at (x ∷ more)) same ∙ at_g more ∙ ap (λ (x : ℕ). get_at (x ∷ more)) (sym same)) (get_reader.refused (b ∷ line) left e)
-    by false false p g e = record {
-      front = [];
-      rest = b ∷ line;
-      parts = refl;
-      counted = cc;
-      tail = codes "get t " ++ codes "a";
-      completes = some_get;
-      why = other_byte b line refl (λ tail. at_other b tail p g);
-    }
+    by false false p g e = at_byte [] (b ∷ line) (codes "get t " ++ codes "0") refl (cc) some_get (other_byte b line refl (λ tail. at_other b tail p g))
+
+refusal_within : (line : List ℕ) (left : ℕ) → CommandRefused line left → left ≤ length line
+refusal_within line left (at_byte front rest tail parts counted completes why) = omega (arith, counted, ap length parts, length-append front rest)
+refusal_within line left (in_field front rest parts before e) = omega (arith, field_within rest left e, ap length parts, length-append front rest)
 
 pub refused_within : (line : List ℕ) (left : ℕ) → command_at line ≡ Err left → left ≤ length line
-refused_within line left e =
-    let r = command_refused line left e in
-    omega (arith, r.counted, ap length r.parts, length-append r.front r.rest)
+refused_within line left e = refusal_within line left (command_refused line left e)
 
 -- ---- the laws
 
@@ -261,33 +221,27 @@ more_than_front front c after tail refuses order h =
     let unread = refuses tail in
     absurd cc
 
-place_made : (line : List ℕ) (left : ℕ) → CommandRefused line left → IsPlace line (length line - left)
-place_made line left r = subst (λ (x : List ℕ). IsPlace x (length x - left)) (sym r.parts) (subst (λ (n : ℕ). IsPlace (r.front ++ r.rest) n) at place)
+byte_place : (front rest tail : List ℕ) → Done IsCommand (front ++ tail) → Why (Refuses command_at) front rest → IsWrongByte (front ++ rest) (length front)
+byte_place front rest tail completes why = record {
+  within = omega (arith, length-append front rest);
+  front = (tail, completes.0, subst (λ (x : List ℕ). IsCommand (x ++ tail) completes.0) (sym (take_at front rest (length front) refl)) completes.1);
+  refused = reason why;
+}
   where
-    at : length r.front ≡ length (r.front ++ r.rest) - left
-    at = omega (arith, r.counted, length-append r.front r.rest)
-
-    begins : take (length r.front) (r.front ++ r.rest) ≡ r.front
-    begins = take_at r.front r.rest (length r.front) refl
-
-    follows : drop (length r.front) (r.front ++ r.rest) ≡ r.rest
-    follows = drop_at r.front r.rest (length r.front) refl
-
-    reason : Why LargeBegins (Refuses command_at) r.front r.rest → (length r.front ≡ length (r.front ++ r.rest)) ⊎ (((length r.front < length (r.front ++ r.rest)) × (IsFront (take (length r.front + 1) (r.front ++ r.rest)) → ⊥)) ⊎ LargeBegins (take (length r.front) (r.front ++ r.rest)) (drop (length r.front) (r.front ++ r.rest)))
-    reason (more_due none) = inl (omega (arith, ap length none, length-append r.front r.rest))
+    reason : Why (Refuses command_at) front rest → (length front ≡ length (front ++ rest)) ⊎ ((length front < length (front ++ rest)) × (IsFront (take (length front + 1) (front ++ rest)) → ⊥))
+    reason (more_due none) = inl (omega (arith, ap length none, length-append front rest))
     reason (other_byte c after parts refuses) =
-        inr (inl (
-          omega (arith, ap length parts, length-append r.front r.rest),
-          λ h. more_than_front r.front c after h.0 refuses h.1 (subst (λ (x : List ℕ). IsCommand (take (length r.front + 1) (r.front ++ x) ++ h.0) h.1) parts h.2),
-        ))
-    reason (too_large large) = inr (inr (subst (λ (x : List ℕ). LargeBegins x (drop (length r.front) (r.front ++ r.rest))) (sym begins) (subst (λ (x : List ℕ). LargeBegins r.front x) (sym follows) large)))
+        inr (
+          omega (arith, ap length parts, length-append front rest),
+          λ h. more_than_front front c after h.0 refuses h.1 (subst (λ (x : List ℕ). IsCommand (take (length front + 1) (front ++ x) ++ h.0) h.1) parts h.2),
+        )
 
-    place : IsPlace (r.front ++ r.rest) (length r.front)
-    place = record {
-      within = omega (arith, length-append r.front r.rest);
-      front = (r.tail, r.completes.0, subst (λ (x : List ℕ). IsCommand (x ++ r.tail) r.completes.0) (sym begins) r.completes.1);
-      refused = reason r.why;
-    }
+place_made : (line : List ℕ) (left : ℕ) → CommandRefused line left → IsPlace line (length line - left)
+place_made line left (at_byte front rest tail parts counted completes why) =
+    let at : length front ≡ length line - left = omega (arith, counted, ap length parts, length-append front rest) in
+    inr (subst (IsWrongByte line) at (subst (λ (x : List ℕ). IsWrongByte x (length front)) (sym parts) (byte_place front rest tail completes why)))
+place_made line left (in_field front rest parts before e) =
+    inl (record { front = front; rest = rest; before = before; parts = parts; refused = field_placed line front rest left parts e })
 
 command_means : (line : List ℕ) (order : Order) → IsCommand line order → IsMeant line (Some order)
 command_means line start h = h
@@ -313,15 +267,7 @@ order_means (b ∷ line) = by (command_at (b ∷ line)) refl
     by (Ok order) e = command_means (b ∷ line) order (command_read (b ∷ line) order e)
     by (Err left) e = refused left e (is_later (b ∷ line)) refl
 
--- ---- numbers that are too large
-
-later_get : (rest : List ℕ) → is_later (codes "get t " ++ rest) ≡ false
-unfolding is_later
-later_get rest = refl
-
-later_put : (rest : List ℕ) → is_later (codes "put t {t," ++ rest) ≡ false
-unfolding is_later
-later_put rest = refl
+-- ---- keys and values that cannot be read
 
 text_again : (text rest : List ℕ) → text_at text (text ++ rest) ≡ Ok rest
 unfolding text_at
@@ -331,51 +277,79 @@ text_again (b ∷ text) rest = rw (eq-eqb b b refl) (text_again text rest)
 behind_again : (text rest : List ℕ) (read : List ℕ → Result Order ℕ) → behind text read (text ++ rest) ≡ read rest
 behind_again text rest read = ap (λ (r : Result (List ℕ) ℕ). r >>= read) (text_again text rest)
 
-large_refused : (text more : List ℕ) (read : Tree → List ℕ → Result Order ℕ) → IsLarge text → behind_field read (text ++ more) ≡ Err (length (text ++ more))
-large_refused text more read large = ap (λ (r : Result (Tree × List ℕ) ℕ). r >>= λ x. read x.0 x.1) (field_large text more large)
+-- A line is read by reading the key or value that begins behind the front, and what follows it. Its word is that of no later command.
+record Reaches (front : List ℕ) : Type 0 where
+  pub read : Tree → List ℕ → Result Order ℕ
+  pub is : (rest : List ℕ) → command_at (front ++ rest) ≡ behind_field read rest
+  pub placed : (rest : List ℕ) (left : ℕ) → command_at (front ++ rest) ≡ Err left → order_of (front ++ rest) ≡ Some (bad (length (front ++ rest) - left))
 
-get_large : (text more : List ℕ) → IsLarge text → get_at (codes "get t " ++ (text ++ more)) ≡ Err (length (text ++ more))
-unfolding get_at
-get_large text more large =
-    behind_again (codes "get t ") (text ++ more) (behind_field (λ key. at_end (get key))) ∙ large_refused text more (λ key. at_end (get key)) large
+later_get : (rest : List ℕ) → is_later (codes "get t " ++ rest) ≡ false
+unfolding is_later
+later_get rest = refl
 
-key_large : (text more : List ℕ) → IsLarge text → put_at (codes "put t {t," ++ (text ++ more)) ≡ Err (length (text ++ more))
-unfolding put_at
-key_large text more large = behind_again (codes "put t {t,") (text ++ more) (behind_field put_value) ∙ large_refused text more put_value large
-
-value_large : (k : List ℕ) (key : Tree) (text more : List ℕ) → IsField k key → IsLarge text → put_at (codes "put t {t," ++ (k ++ (codes "," ++ (text ++ more)))) ≡ Err (length (text ++ more))
-unfolding put_at
-value_large k key text more is large =
-    behind_again (codes "put t {t,") (k ++ (codes "," ++ (text ++ more))) (behind_field put_value)
-    ∙ ap (λ (r : Result (Tree × List ℕ) ℕ). r >>= λ x. put_value x.0 x.1) (field_again k (codes "," ++ (text ++ more)) key is (stops_at_byte key 44 (text ++ more) refl refl))
-    ∙ behind_again (codes ",") (text ++ more) (behind_field (put_end key))
-    ∙ large_refused text more (put_end key) large
+later_put : (rest : List ℕ) → is_later (codes "put t {t," ++ rest) ≡ false
+unfolding is_later
+later_put rest = refl
 
 refused_order : (b : ℕ) (line : List ℕ) (left : ℕ) → command_at (b ∷ line) ≡ Err left → is_later (b ∷ line) ≡ false → order_of (b ∷ line) ≡ Some (bad (length (b ∷ line) - left))
 refused_order b line left e later = ap (λ (r : Result Order ℕ). Some (ordered (b ∷ line) r)) e ∙ rw later refl
 
-behind_front : (front rest : List ℕ) → length (front ++ rest) - length rest ≡ length front
-behind_front front rest = omega (arith, length-append front rest)
+get_reads : (rest : List ℕ) → get_at (codes "get t " ++ rest) ≡ behind_field (λ key. at_end (get key)) rest
+unfolding get_at
+get_reads rest = behind_again (codes "get t ") rest (behind_field (λ key. at_end (get key)))
 
-abbrev at_front : List ℕ → Option Order
-at_front front = Some (bad (length front))
+key_reads : (rest : List ℕ) → put_at (codes "put t {t," ++ rest) ≡ behind_field put_value rest
+unfolding put_at
+key_reads rest = behind_again (codes "put t {t,") rest (behind_field put_value)
 
-pub order_large : (front text more : List ℕ) → IsBeforeField front → IsLarge text → order_of (front ++ (text ++ more)) ≡ Some (bad (length front))
-order_large front text more (inl get_front) large =
-    let rest = text ++ more in
-    let place = ap (λ (n : ℕ). Some (bad n)) (behind_front (codes "get t ") rest) in
-    let order : order_of (codes "get t " ++ rest) ≡ at_front (codes "get t ") = refused_order 103 _ (length rest) (at_g _ ∙ get_large text more large) (later_get rest) ∙ place in
-    subst (λ (x : List ℕ). order_of (x ++ rest) ≡ at_front x) (sym get_front) order
-order_large front text more (inr (inl put_front)) large =
-    let rest = text ++ more in
-    let place = ap (λ (n : ℕ). Some (bad n)) (behind_front (codes "put t {t,") rest) in
-    let order : order_of (codes "put t {t," ++ rest) ≡ at_front (codes "put t {t,") = refused_order 112 _ (length rest) (at_p _ ∙ key_large text more large) (later_put rest) ∙ place in
-    subst (λ (x : List ℕ). order_of (x ++ rest) ≡ at_front x) (sym put_front) order
-order_large front text more (inr (inr (k, key, is, put_front))) large =
-    let rest = text ++ more in
-    let begin = codes "put t {t," ++ (k ++ codes ",") in
-    let regroup : begin ++ rest ≡ codes "put t {t," ++ (k ++ (codes "," ++ rest)) = ap (λ (x : List ℕ). codes "put t {t," ++ x) (append_assoc k (codes ",") rest) in
-    let read : put_at (begin ++ rest) ≡ Err (length rest) = ap put_at regroup ∙ value_large k key text more is large in
-    let place = ap (λ (n : ℕ). Some (bad n)) (behind_front begin rest) in
-    let order : order_of (begin ++ rest) ≡ at_front begin = refused_order 112 _ (length rest) (at_p _ ∙ read) (later_put ((k ++ codes ",") ++ rest)) ∙ place in
-    subst (λ (x : List ℕ). order_of (x ++ rest) ≡ at_front x) (sym put_front) order
+value_reads : (k : List ℕ) (key : Tree) (rest : List ℕ) → IsField k key → put_at (codes "put t {t," ++ (k ++ (codes "," ++ rest))) ≡ behind_field (put_end key) rest
+value_reads k key rest is =
+    key_reads (k ++ (codes "," ++ rest))
+    ∙ ap (λ (r : Result (Tree × List ℕ) ℕ). r >>= λ x. put_value x.0 x.1) (field_again k (codes "," ++ rest) key is (stops_at_comma key k rest))
+    ∙ behind_again (codes ",") rest (behind_field (put_end key))
+
+reaches_get : Reaches (codes "get t ")
+reaches_get = record {
+  read = λ key. at_end (get key);
+  is = λ rest. at_g _ ∙ get_reads rest;
+  placed = λ rest left e. refused_order 103 _ left e (later_get rest);
+}
+
+reaches_key : Reaches (codes "put t {t,")
+reaches_key = record {
+  read = put_value;
+  is = λ rest. at_p _ ∙ key_reads rest;
+  placed = λ rest left e. refused_order 112 _ left e (later_put rest);
+}
+
+reaches_value : (k : List ℕ) (key : Tree) → IsField k key → Reaches (codes "put t {t," ++ (k ++ codes ","))
+reaches_value k key is = record {
+  read = put_end key;
+  is = λ rest. at_p _ ∙ ap (λ (x : List ℕ). put_at (codes "put t {t," ++ x)) (append_assoc k (codes ",") rest) ∙ value_reads k key rest is;
+  placed = λ rest left e. refused_order 112 _ left e (later_put ((k ++ codes ",") ++ rest));
+}
+
+reaches : (front : List ℕ) → IsBeforeField front → Reaches front
+reaches front (inl get_front) = subst Reaches (sym get_front) reaches_get
+reaches front (inr (inl put_front)) = subst Reaches (sym put_front) reaches_key
+reaches front (inr (inr (k, key, is, put_front))) = subst Reaches (sym put_front) (reaches_value k key is)
+
+-- the line is refused where its key or value is
+pub order_wrong : (line : List ℕ) (at : ℕ) → IsWrongField line at → order_of line ≡ Some (bad at)
+order_wrong line at h =
+    let wrong = field_wrong line h.front h.rest at h.parts h.refused in
+    let reached = reaches h.front h.before in
+    let left = length line - at in
+    let refused : command_at (h.front ++ h.rest) ≡ Err left = reached.is h.rest ∙ ap (λ (r : Result (Tree × List ℕ) ℕ). r >>= λ x. reached.read x.0 x.1) wrong.refused in
+    let place : length (h.front ++ h.rest) - left ≡ at = omega (arith, ap length h.parts, wrong.within) in
+    ap order_of h.parts ∙ reached.placed h.rest left refused ∙ ap (λ (n : ℕ). Some (bad n)) place
+
+-- and no command begins so
+pub order_never : (line : List ℕ) (at : ℕ) → IsWrongField line at → at < length line → NoCommand line
+order_never line at h inside more fresh order is =
+    let wrong = field_wrong line h.front h.rest at h.parts h.refused in
+    let reached = reaches h.front h.before in
+    let parts : line ++ more ≡ h.front ++ (h.rest ++ more) = ap (λ (x : List ℕ). x ++ more) h.parts ∙ append_assoc h.front h.rest more in
+    let read : behind_field reached.read (h.rest ++ more) ≡ Ok order = sym (reached.is (h.rest ++ more)) ∙ ap command_at (sym parts) ∙ command_again (line ++ more) order is in
+    let step = bind_ok (field_at (h.rest ++ more)) (λ x. reached.read x.0 x.1) order read in
+    field_stays h.rest more (length line - at) step.0 fresh wrong.refused (omega (arith, inside)) step.1

@@ -1,9 +1,9 @@
 -- What a directory stands for: one list of writes, or no meaning from one place on.
-use Rattle.std.proofs.Common.{◌≡◌, ℕ, zero, suc, ◌+◌, ◌<◌, true, map, List, [], ◌∷◌, ◌++◌, length, take, Some, refl, sym, ap, ◌∙◌, subst, inl, inr, arith, lit<, length-append}
+use Rattle.std.proofs.Common.{◌≡◌, ℕ, zero, suc, ◌+◌, ◌<◌, true, List, [], ◌∷◌, ◌++◌, length, take, Some, refl, sym, ap, ◌∙◌, subst, inl, inr, arith, length-append}
 use Rattle.std.specs.Prelude.{slice_get}
 use Rattle.std.proofs.lemmas.List.Elements.{All-head, All-tail}
 use Rattle.term_core.specs.Tree.{Tree}
-use Rattle.log_items.specs.Items.{item_bytes, wire, log_bytes, IsContent, AreContents}
+use Rattle.log_items.specs.Items.{item_bytes, wire, log_bytes, AreContents}
 use Rattle.disk_logs.specs.Chunks.{places_of}
 use Rattle.disk_logs.specs.Closed.{IsBadAt}
 use Rattle.log_items.proofs.Unique.{one_list, whole_file}

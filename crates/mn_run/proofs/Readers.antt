@@ -3,9 +3,10 @@ use Rattle.std.proofs.Common.{◌≡◌, ℕ, Bool, true, false, eqb, List, [], 
 use Rattle.std.proofs.lemmas.Bool.{eqb-true, eq-eqb, ne_eqb}
 use Rattle.term_core.specs.Tree.{Tree}
 use Rattle.mn_run.specs.Commands.{◌>>=◌, text_at, at_end, field_at}
-use Rattle.mn_run.specs.Grammar.{IsField, IsLarge}
-use Rattle.mn_run.proofs.Fields.{Stops, Stops-first, field_read, field_again, FieldDone, FieldLarge, FieldRefuses, field_refused}
-use Rattle.mn_run.proofs.Refusals.{Why, more_due, other_byte, too_large, Refusal, ok_is, bind_ok, BindErr, at_first, at_second, bind_err}
+use Rattle.term_text.specs.Grammar.{Stops}
+use Rattle.mn_run.specs.Grammar.{IsField}
+use Rattle.mn_run.proofs.Fields.{stops_first, field_read, field_again}
+use Rattle.mn_run.proofs.Refusals.{Why, more_due, other_byte, Refusal, at_byte, in_field, ok_is, bind_ok, BindErr, at_first, at_second, bind_err}
 
 -- some value is read from the text
 abbrev pub Done : {Y : Type 0} → (List ℕ → Y → Type 0) → List ℕ → Type 0
@@ -15,10 +16,10 @@ abbrev pub Refuses : {Y : Type 0} → (List ℕ → Result Y ℕ) → List ℕ �
 Refuses read line left = read line ≡ Err left
 
 -- A reader finds a value just in the lines that are its, and says of others where they go wrong.
-pub record IsReader {Y : Type 0} (read : List ℕ → Result Y ℕ) (Line : List ℕ → Y → Type 0) (Large : List ℕ → List ℕ → Type 0) : Type 0 where
+pub record IsReader {Y : Type 0} (read : List ℕ → Result Y ℕ) (Line : List ℕ → Y → Type 0) (Before : List ℕ → Type 0) : Type 0 where
   pub found : (line : List ℕ) (y : Y) → read line ≡ Ok y → Line line y
   pub again : (line : List ℕ) (y : Y) → Line line y → read line ≡ Ok y
-  pub refused : (line : List ℕ) (left : ℕ) → read line ≡ Err left → Refusal (Done Line) Large (Refuses read) line left
+  pub refused : (line : List ℕ) (left : ℕ) → read line ≡ Err left → Refusal (Done Line) Before (Refuses read) line left
   pub sample : (text : List ℕ) × Done Line text
 
 -- ---- the end
@@ -26,13 +27,14 @@ pub record IsReader {Y : Type 0} (read : List ℕ → Result Y ℕ) (Line : List
 abbrev pub AtEnd : {Y : Type 0} → Y → List ℕ → Y → Type 0
 AtEnd x line y = (line ≡ []) × (x ≡ y)
 
-abbrev pub NoneLarge : List ℕ → List ℕ → Type 0
-NoneLarge front rest = ⊥
+-- no key or value is to come
+abbrev pub NoField : List ℕ → Type 0
+NoField front = ⊥
 
 at_end-cons : {Y : Type 0} (x : Y) (c : ℕ) (rest : List ℕ) → at_end x (c ∷ rest) ≡ Err (length (c ∷ rest))
 at_end-cons x c rest = let more : eqb (length (c ∷ rest)) 0 ≡ false = ne_eqb _ _ (λ same. absurd (omega arith)) in rw more refl
 
-pub end_reader : {Y : Type 0} (x : Y) → IsReader (at_end x) (AtEnd x) NoneLarge
+pub end_reader : {Y : Type 0} (x : Y) → IsReader (at_end x) (AtEnd x) NoField
 end_reader {Y} x = record { found = found; again = again; refused = refused; sample = ([], (x, (refl, refl))) }
   where
     found : (line : List ℕ) (y : Y) → at_end x line ≡ Ok y → AtEnd x line y
@@ -42,17 +44,10 @@ end_reader {Y} x = record { found = found; again = again; refused = refused; sam
     again : (line : List ℕ) (y : Y) → AtEnd x line y → at_end x line ≡ Ok y
     again line y h = ap (at_end x) h.0 ∙ ap Ok h.1
 
-    refused : (line : List ℕ) (left : ℕ) → at_end x line ≡ Err left → Refusal (Done (AtEnd x)) NoneLarge (Refuses (at_end x)) line left
+    refused : (line : List ℕ) (left : ℕ) → at_end x line ≡ Err left → Refusal (Done (AtEnd x)) NoField (Refuses (at_end x)) line left
     refused [] left e = absurd cc
-    refused (c ∷ rest) left e = record {
-      front = [];
-      rest = c ∷ rest;
-      parts = refl;
-      counted = let other = at_end-cons x c rest in cc;
-      tail = [];
-      completes = (x, (refl, refl));
-      why = other_byte c rest refl (λ tail. at_end-cons x c tail);
-    }
+    refused (c ∷ rest) left e =
+        at_byte [] (c ∷ rest) [] refl (let other = at_end-cons x c rest in cc) (x, (refl, refl)) (other_byte c rest refl (λ tail. at_end-cons x c tail))
 
 -- ---- a text, and what follows it
 
@@ -62,9 +57,9 @@ Behind text Line line y = (rest : List ℕ) × (line ≡ text ++ rest) × Line r
 abbrev pub behind : {Y : Type 0} → List ℕ → (List ℕ → Result Y ℕ) → List ℕ → Result Y ℕ
 behind text read line = text_at text line >>= read
 
--- how a number that is too large follows from one behind the text
-abbrev pub Moves : List ℕ → (List ℕ → List ℕ → Type 0) → (List ℕ → List ℕ → Type 0) → Type 0
-Moves text Large Large' = (front rest : List ℕ) → Large front rest → Large' (text ++ front) rest
+-- what stands before a key or a value, with the text before it
+abbrev pub Moves : List ℕ → (List ℕ → Type 0) → (List ℕ → Type 0) → Type 0
+Moves text Before Before' = (front : List ℕ) → Before front → Before' (text ++ front)
 
 same_first : {Y : Type 0} (b c : ℕ) (text line : List ℕ) (read : List ℕ → Result Y ℕ) → eqb b c ≡ true → behind (b ∷ text) read (c ∷ line) ≡ behind text read line
 unfolding text_at
@@ -82,32 +77,25 @@ no_line : {Y : Type 0} (b : ℕ) (text : List ℕ) (read : List ℕ → Result Y
 unfolding text_at
 no_line b text read = refl
 
-empty_reader : {Y : Type 0} (read : List ℕ → Result Y ℕ) (Line : List ℕ → Y → Type 0) (Large Large' : List ℕ → List ℕ → Type 0) → Moves [] Large Large' → IsReader read Line Large → IsReader (behind [] read) (Behind [] Line) Large'
-empty_reader {Y} read Line Large Large' moves reader = record {
+empty_reader : {Y : Type 0} (read : List ℕ → Result Y ℕ) (Line : List ℕ → Y → Type 0) (Before Before' : List ℕ → Type 0) → Moves [] Before Before' → IsReader read Line Before → IsReader (behind [] read) (Behind [] Line) Before'
+empty_reader {Y} read Line Before Before' moves reader = record {
   found = λ line y e. (line, refl, reader.found line y (sym (empty_text read line) ∙ e));
   again = λ line y h. empty_text read line ∙ reader.again line y (subst (λ (t : List ℕ). Line t y) (sym h.1) h.2);
   refused = λ line left e. refusal line left (reader.refused line left (sym (empty_text read line) ∙ e));
   sample = (reader.sample.0, (reader.sample.1.0, (reader.sample.0, refl, reader.sample.1.1)));
 }
   where
-    reason : (front rest : List ℕ) → Why Large (Refuses read) front rest → Why Large' (Refuses (behind [] read)) front rest
+    reason : (front rest : List ℕ) → Why (Refuses read) front rest → Why (Refuses (behind [] read)) front rest
     reason front rest (more_due none) = more_due none
     reason front rest (other_byte c after parts refuses) = other_byte c after parts (λ tail. empty_text read (front ++ c ∷ tail) ∙ refuses tail)
-    reason front rest (too_large large) = too_large (moves front rest large)
 
-    refusal : (line : List ℕ) (left : ℕ) → Refusal (Done Line) Large (Refuses read) line left → Refusal (Done (Behind [] Line)) Large' (Refuses (behind [] read)) line left
-    refusal line left r = record {
-      front = r.front;
-      rest = r.rest;
-      parts = r.parts;
-      counted = r.counted;
-      tail = r.tail;
-      completes = (r.completes.0, (r.front ++ r.tail, refl, r.completes.1));
-      why = reason r.front r.rest r.why;
-    }
+    refusal : (line : List ℕ) (left : ℕ) → Refusal (Done Line) Before (Refuses read) line left → Refusal (Done (Behind [] Line)) Before' (Refuses (behind [] read)) line left
+    refusal line left (at_byte front rest tail parts counted completes why) =
+        at_byte front rest tail parts counted (completes.0, (front ++ tail, refl, completes.1)) (reason front rest why)
+    refusal line left (in_field front rest parts before e) = in_field front rest parts (moves front before) e
 
-byte_reader : {Y : Type 0} (b : ℕ) (text : List ℕ) (read : List ℕ → Result Y ℕ) (Line : List ℕ → Y → Type 0) (Large : List ℕ → List ℕ → Type 0) → IsReader (behind text read) (Behind text Line) (λ front rest. Large (b ∷ front) rest) → IsReader (behind (b ∷ text) read) (Behind (b ∷ text) Line) Large
-byte_reader {Y} b text read Line Large reader = record { found = found; again = again; refused = refused; sample = (b ∷ reader.sample.0, whole reader.sample.0 reader.sample.1) }
+byte_reader : {Y : Type 0} (b : ℕ) (text : List ℕ) (read : List ℕ → Result Y ℕ) (Line : List ℕ → Y → Type 0) (Before : List ℕ → Type 0) → IsReader (behind text read) (Behind text Line) (λ front. Before (b ∷ front)) → IsReader (behind (b ∷ text) read) (Behind (b ∷ text) Line) Before
+byte_reader {Y} b text read Line Before reader = record { found = found; again = again; refused = refused; sample = (b ∷ reader.sample.0, whole reader.sample.0 reader.sample.1) }
   where
     longer : (line : List ℕ) (y : Y) → Behind text Line line y → Behind (b ∷ text) Line (b ∷ line) y
     longer line y h = (h.0, ap (λ (t : List ℕ). b ∷ t) h.1, h.2)
@@ -126,52 +114,31 @@ byte_reader {Y} b text read Line Large reader = record { found = found; again = 
     again : (line : List ℕ) (y : Y) → Behind (b ∷ text) Line line y → behind (b ∷ text) read line ≡ Ok y
     again line y h = ap (behind (b ∷ text) read) h.1 ∙ same_first b b text (text ++ h.0) read (eq-eqb b b refl) ∙ reader.again (text ++ h.0) y (h.0, refl, h.2)
 
-    reason : (front rest : List ℕ) → Why (λ front rest. Large (b ∷ front) rest) (Refuses (behind text read)) front rest → Why Large (Refuses (behind (b ∷ text) read)) (b ∷ front) rest
+    reason : (front rest : List ℕ) → Why (Refuses (behind text read)) front rest → Why (Refuses (behind (b ∷ text) read)) (b ∷ front) rest
     reason front rest (more_due none) = more_due none
     reason front rest (other_byte c after parts refuses) = other_byte c after parts (λ tail. same_first b b text (front ++ c ∷ tail) read (eq-eqb b b refl) ∙ refuses tail)
-    reason front rest (too_large large) = too_large large
 
-    refusal : (line : List ℕ) (left : ℕ) → Refusal (Done (Behind text Line)) (λ front rest. Large (b ∷ front) rest) (Refuses (behind text read)) line left → Refusal (Done (Behind (b ∷ text) Line)) Large (Refuses (behind (b ∷ text) read)) (b ∷ line) left
-    refusal line left r = record {
-      front = b ∷ r.front;
-      rest = r.rest;
-      parts = ap (λ (t : List ℕ). b ∷ t) r.parts;
-      counted = r.counted;
-      tail = r.tail;
-      completes = whole (r.front ++ r.tail) r.completes;
-      why = reason r.front r.rest r.why;
-    }
+    refusal : (line : List ℕ) (left : ℕ) → Refusal (Done (Behind text Line)) (λ front. Before (b ∷ front)) (Refuses (behind text read)) line left → Refusal (Done (Behind (b ∷ text) Line)) Before (Refuses (behind (b ∷ text) read)) (b ∷ line) left
+    refusal line left (at_byte front rest tail parts counted completes why) =
+        at_byte (b ∷ front) rest tail (ap (λ (t : List ℕ). b ∷ t) parts) counted (whole (front ++ tail) completes) (reason front rest why)
+    refusal line left (in_field front rest parts before e) = in_field (b ∷ front) rest (ap (λ (t : List ℕ). b ∷ t) parts) before e
 
-    refused : (line : List ℕ) (left : ℕ) → behind (b ∷ text) read line ≡ Err left → Refusal (Done (Behind (b ∷ text) Line)) Large (Refuses (behind (b ∷ text) read)) line left
-    refused [] left e = record {
-      front = [];
-      rest = [];
-      parts = refl;
-      counted = let none = no_line b text read in cc;
-      tail = b ∷ reader.sample.0;
-      completes = whole reader.sample.0 reader.sample.1;
-      why = more_due refl;
-    }
+    refused : (line : List ℕ) (left : ℕ) → behind (b ∷ text) read line ≡ Err left → Refusal (Done (Behind (b ∷ text) Line)) Before (Refuses (behind (b ∷ text) read)) line left
+    refused [] left e = at_byte [] [] (b ∷ reader.sample.0) refl (let none = no_line b text read in cc) (whole reader.sample.0 reader.sample.1) (more_due refl)
     refused (c ∷ line) left e = by (eqb b c) refl
       where
-        by : (t : Bool) → eqb b c ≡ t → Refusal (Done (Behind (b ∷ text) Line)) Large (Refuses (behind (b ∷ text) read)) (c ∷ line) left
+        by : (t : Bool) → eqb b c ≡ t → Refusal (Done (Behind (b ∷ text) Line)) Before (Refuses (behind (b ∷ text) read)) (c ∷ line) left
         by true same =
-            subst (λ (x : ℕ). Refusal (Done (Behind (b ∷ text) Line)) Large (Refuses (behind (b ∷ text) read)) (x ∷ line) left) (eqb-true b c same)
+            subst (λ (x : ℕ). Refusal (Done (Behind (b ∷ text) Line)) Before (Refuses (behind (b ∷ text) read)) (x ∷ line) left) (eqb-true b c same)
             (refusal line left (reader.refused line left (sym (same_first b c text line read same) ∙ e)))
-        by false same = record {
-          front = [];
-          rest = c ∷ line;
-          parts = refl;
-          counted = let other = other_first b c text line read same in cc;
-          tail = b ∷ reader.sample.0;
-          completes = whole reader.sample.0 reader.sample.1;
-          why = other_byte c line refl (λ tail. other_first b c text tail read same);
-        }
+        by false same =
+            at_byte [] (c ∷ line) (b ∷ reader.sample.0) refl (let other = other_first b c text line read same in cc) (whole reader.sample.0 reader.sample.1)
+            (other_byte c line refl (λ tail. other_first b c text tail read same))
 
-pub text_reader : {Y : Type 0} (text : List ℕ) (read : List ℕ → Result Y ℕ) (Line : List ℕ → Y → Type 0) (Large Large' : List ℕ → List ℕ → Type 0) → Moves text Large Large' → IsReader read Line Large → IsReader (behind text read) (Behind text Line) Large'
-text_reader [] read Line Large Large' moves reader = empty_reader read Line Large Large' moves reader
-text_reader (b ∷ text) read Line Large Large' moves reader =
-    byte_reader b text read Line Large' (text_reader text read Line Large (λ front rest. Large' (b ∷ front) rest) moves reader)
+pub text_reader : {Y : Type 0} (text : List ℕ) (read : List ℕ → Result Y ℕ) (Line : List ℕ → Y → Type 0) (Before Before' : List ℕ → Type 0) → Moves text Before Before' → IsReader read Line Before → IsReader (behind text read) (Behind text Line) Before'
+text_reader [] read Line Before Before' moves reader = empty_reader read Line Before Before' moves reader
+text_reader (b ∷ text) read Line Before Before' moves reader =
+    byte_reader b text read Line Before' (text_reader text read Line Before (λ front. Before' (b ∷ front)) moves reader)
 
 -- ---- a key or a value, and what follows it
 
@@ -181,16 +148,20 @@ BehindField Line line y = (text : List ℕ) × (t : Tree) × IsField text t × (
 abbrev pub behind_field : {Y : Type 0} → (Tree → List ℕ → Result Y ℕ) → List ℕ → Result Y ℕ
 behind_field read line = field_at line >>= λ x. read x.0 x.1
 
--- how a number that is too large follows from one that begins the line, or from one behind the field
-pub record MovesField (Large : Tree → List ℕ → List ℕ → Type 0) (Large' : List ℕ → List ℕ → Type 0) : Type 0 where
-  pub here : (text more rest : List ℕ) → IsLarge text → rest ≡ text ++ more → Large' [] rest
-  pub there : (text : List ℕ) (t : Tree) (front rest : List ℕ) → IsField text t → Large t front rest → Large' (text ++ front) rest
+-- what stands before a field that begins the line, and before one behind it
+pub record MovesField (Before : Tree → List ℕ → Type 0) (Before' : List ℕ → Type 0) : Type 0 where
+  pub here : Before' []
+  pub there : (text : List ℕ) (t : Tree) (front : List ℕ) → IsField text t → Before t front → Before' (text ++ front)
 
-pub field_reader : {Y : Type 0} (read : Tree → List ℕ → Result Y ℕ) (Line : Tree → List ℕ → Y → Type 0) (Large : Tree → List ℕ → List ℕ → Type 0) (Large' : List ℕ → List ℕ → Type 0)
-    → ((t : Tree) → IsReader (read t) (Line t) (Large t)) → ((t : Tree) (rest : List ℕ) (y : Y) → Line t rest y → Stops t rest) → MovesField Large Large'
+-- what follows a field ends its text
+abbrev pub Follows : {Y : Type 0} → (Tree → List ℕ → Y → Type 0) → Type 0
+Follows {Y} Line = (t : Tree) (text rest : List ℕ) (y : Y) → Line t rest y → Stops t text rest
+
+pub field_reader : {Y : Type 0} (read : Tree → List ℕ → Result Y ℕ) (Line : Tree → List ℕ → Y → Type 0) (Before : Tree → List ℕ → Type 0) (Before' : List ℕ → Type 0)
+    → ((t : Tree) → IsReader (read t) (Line t) (Before t)) → Follows Line → MovesField Before Before'
     → (text : List ℕ) (t : Tree) → IsField text t
-    → IsReader (behind_field read) (BehindField Line) Large'
-field_reader {Y} read Line Large Large' reader follows moves some_text some_tree some_field =
+    → IsReader (behind_field read) (BehindField Line) Before'
+field_reader {Y} read Line Before Before' reader follows moves some_text some_tree some_field =
     record { found = found; again = again; refused = refused; sample = (some_text ++ (reader some_tree).sample.0, whole some_text some_tree some_field) }
   where
     whole : (text : List ℕ) (t : Tree) → IsField text t → Done (BehindField Line) (text ++ (reader t).sample.0)
@@ -202,52 +173,32 @@ field_reader {Y} read Line Large Large' reader follows moves some_text some_tree
         let field = field_read line step.0.0 step.0.1 step.1 in
         (field.text, step.0.0, field.is, step.0.1, field.parts, (reader step.0.0).found step.0.1 y step.2)
 
-    again_at : (text : List ℕ) (t : Tree) (rest : List ℕ) → IsField text t → Stops t rest → behind_field read (text ++ rest) ≡ read t rest
+    again_at : (text : List ℕ) (t : Tree) (rest : List ℕ) → IsField text t → Stops t text rest → behind_field read (text ++ rest) ≡ read t rest
     again_at text t rest is stops = ap (λ (r : Result (Tree × List ℕ) ℕ). r >>= λ x. read x.0 x.1) (field_again text rest t is stops)
 
     again : (line : List ℕ) (y : Y) → BehindField Line line y → behind_field read line ≡ Ok y
-    again line y (text, t, is, rest, parts, h) = ap (behind_field read) parts ∙ again_at text t rest is (follows t rest y h) ∙ (reader t).again rest y h
+    again line y (text, t, is, rest, parts, h) = ap (behind_field read) parts ∙ again_at text t rest is (follows t text rest y h) ∙ (reader t).again rest y h
 
-    reason_here : (front rest : List ℕ) → Why FieldLarge FieldRefuses front rest → Why Large' (Refuses (behind_field read)) front rest
-    reason_here front rest (more_due none) = more_due none
-    reason_here front rest (other_byte c after parts refuses) = other_byte c after parts (λ tail. ap (λ (r : Result (Tree × List ℕ) ℕ). r >>= λ x. read x.0 x.1) (refuses tail))
-    reason_here front rest (too_large (none, text, more, large, parts)) = too_large (subst (λ (x : List ℕ). Large' x rest) (sym none) (moves.here text more rest large parts))
-
-    refusal_here : (line : List ℕ) (left : ℕ) → Refusal FieldDone FieldLarge FieldRefuses line left → Refusal (Done (BehindField Line)) Large' (Refuses (behind_field read)) line left
-    refusal_here line left r = record {
-      front = r.front;
-      rest = r.rest;
-      parts = r.parts;
-      counted = r.counted;
-      tail = r.tail ++ (reader r.completes.0).sample.0;
-      completes = subst (Done (BehindField Line)) (append_assoc r.front r.tail (reader r.completes.0).sample.0) (whole (r.front ++ r.tail) r.completes.0 r.completes.1);
-      why = reason_here r.front r.rest r.why;
-    }
-
-    reason_there : (text : List ℕ) (t : Tree) (front rest : List ℕ) → IsField text t → Stops t (front ++ rest) → Why (Large t) (Refuses (read t)) front rest → Why Large' (Refuses (behind_field read)) (text ++ front) rest
-    reason_there text t front rest is stops (more_due none) = more_due none
-    reason_there text t front rest is stops (other_byte c after parts refuses) =
-        let stops_at : Stops t (front ++ c ∷ after) = subst (λ (x : List ℕ). Stops t (front ++ x)) parts stops in
+    reason : (text : List ℕ) (t : Tree) (front rest : List ℕ) → IsField text t → Stops t text (front ++ rest) → Why (Refuses (read t)) front rest → Why (Refuses (behind_field read)) (text ++ front) rest
+    reason text t front rest is stops (more_due none) = more_due none
+    reason text t front rest is stops (other_byte c after parts refuses) =
+        let stops_at : Stops t text (front ++ c ∷ after) = subst (λ (x : List ℕ). Stops t text (front ++ x)) parts stops in
         other_byte c after parts
-        (λ tail. ap (behind_field read) (append_assoc text front (c ∷ tail)) ∙ again_at text t (front ++ c ∷ tail) is (Stops-first t front c after tail stops_at) ∙ refuses tail)
-    reason_there text t front rest is stops (too_large large) = too_large (moves.there text t front rest is large)
+        (λ tail. ap (behind_field read) (append_assoc text front (c ∷ tail)) ∙ again_at text t (front ++ c ∷ tail) is (stops_first t text front c after tail stops_at) ∙ refuses tail)
 
-    refusal_there : (line text : List ℕ) (t : Tree) (rest : List ℕ) (left : ℕ) → IsField text t → line ≡ text ++ rest → Stops t rest → Refusal (Done (Line t)) (Large t) (Refuses (read t)) rest left → Refusal (Done (BehindField Line)) Large' (Refuses (behind_field read)) line left
-    refusal_there line text t rest left is parts stops r = record {
-      front = text ++ r.front;
-      rest = r.rest;
-      parts = parts ∙ ap (λ (x : List ℕ). text ++ x) r.parts ∙ sym (append_assoc text r.front r.rest);
-      counted = r.counted;
-      tail = r.tail;
-      completes = (r.completes.0, (text, t, is, r.front ++ r.tail, append_assoc text r.front r.tail, r.completes.1));
-      why = reason_there text t r.front r.rest is (subst (λ (x : List ℕ). Stops t x) r.parts stops) r.why;
-    }
+    refusal : (line text : List ℕ) (t : Tree) (rest : List ℕ) (left : ℕ) → IsField text t → line ≡ text ++ rest → Stops t text rest → Refusal (Done (Line t)) (Before t) (Refuses (read t)) rest left → Refusal (Done (BehindField Line)) Before' (Refuses (behind_field read)) line left
+    refusal line text t rest left is parts stops (at_byte front others tail inner counted completes why) =
+        at_byte (text ++ front) others tail (parts ∙ ap (λ (x : List ℕ). text ++ x) inner ∙ sym (append_assoc text front others)) counted
+        (completes.0, (text, t, is, front ++ tail, append_assoc text front tail, completes.1))
+        (reason text t front others is (subst (λ (x : List ℕ). Stops t text x) inner stops) why)
+    refusal line text t rest left is parts stops (in_field front others inner before e) =
+        in_field (text ++ front) others (parts ∙ ap (λ (x : List ℕ). text ++ x) inner ∙ sym (append_assoc text front others)) (moves.there text t front is before) e
 
-    refused : (line : List ℕ) (left : ℕ) → behind_field read line ≡ Err left → Refusal (Done (BehindField Line)) Large' (Refuses (behind_field read)) line left
+    refused : (line : List ℕ) (left : ℕ) → behind_field read line ≡ Err left → Refusal (Done (BehindField Line)) Before' (Refuses (behind_field read)) line left
     refused line left e = by (bind_err (field_at line) (λ x. read x.0 x.1) left e)
       where
-        by : BindErr (field_at line) (λ x. read x.0 x.1) left → Refusal (Done (BehindField Line)) Large' (Refuses (behind_field read)) line left
-        by (at_first e) = refusal_here line left (field_refused line left e)
+        by : BindErr (field_at line) (λ x. read x.0 x.1) left → Refusal (Done (BehindField Line)) Before' (Refuses (behind_field read)) line left
+        by (at_first e) = in_field [] line refl moves.here e
         by (at_second x e f) =
             let field = field_read line x.0 x.1 e in
-            refusal_there line field.text x.0 x.1 left field.is field.parts field.stops ((reader x.0).refused x.1 left f)
+            refusal line field.text x.0 x.1 left field.is field.parts field.stops ((reader x.0).refused x.1 left f)

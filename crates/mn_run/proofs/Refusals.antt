@@ -1,22 +1,16 @@
 -- What a reader that refuses a line says of it.
 use Rattle.std.proofs.Common.{◌≡◌, ℕ, List, [], ◌∷◌, ◌++◌, length, Result, Ok, Err, refl}
-use Rattle.mn_run.specs.Commands.{◌>>=◌}
+use Rattle.mn_run.specs.Commands.{◌>>=◌, field_at}
 
 -- why the bytes behind the front are refused
-pub data Why (Large : List ℕ → List ℕ → Type 0) (Refuses : List ℕ → ℕ → Type 0) (front rest : List ℕ) : Type 0 where
-  more_due : rest ≡ [] → Why Large Refuses front rest
-  other_byte : (c : ℕ) (after : List ℕ) → rest ≡ c ∷ after → ((tail : List ℕ) → Refuses (front ++ c ∷ tail) (length (c ∷ tail))) → Why Large Refuses front rest
-  too_large : Large front rest → Why Large Refuses front rest
+pub data Why (Refuses : List ℕ → ℕ → Type 0) (front rest : List ℕ) : Type 0 where
+  more_due : rest ≡ [] → Why Refuses front rest
+  other_byte : (c : ℕ) (after : List ℕ) → rest ≡ c ∷ after → ((tail : List ℕ) → Refuses (front ++ c ∷ tail) (length (c ∷ tail))) → Why Refuses front rest
 
--- The front may still become a text that is Done.
-pub record Refusal (Done : List ℕ → Type 0) (Large : List ℕ → List ℕ → Type 0) (Refuses : List ℕ → ℕ → Type 0) (line : List ℕ) (left : ℕ) : Type 0 where
-  pub front : List ℕ
-  pub rest : List ℕ
-  pub parts : line ≡ front ++ rest
-  pub counted : left ≡ length rest
-  pub tail : List ℕ
-  pub completes : Done (front ++ tail)
-  pub why : Why Large Refuses front rest
+-- The front may still become a text that is Done, or it goes up to a key or a value that cannot be read.
+pub data Refusal (Done Before : List ℕ → Type 0) (Refuses : List ℕ → ℕ → Type 0) (line : List ℕ) (left : ℕ) : Type 0 where
+  at_byte : (front rest tail : List ℕ) → line ≡ front ++ rest → left ≡ length rest → Done (front ++ tail) → Why Refuses front rest → Refusal Done Before Refuses line left
+  in_field : (front rest : List ℕ) → line ≡ front ++ rest → Before front → field_at rest ≡ Err left → Refusal Done Before Refuses line left
 
 -- ---- results
 

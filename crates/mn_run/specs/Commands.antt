@@ -1,10 +1,11 @@
 -- What a line says.
-use Rattle.std.specs.Prelude.{ℕ, pos, neg_ℤ, ◌+◌, ◌-◌, ◌*◌, not, ◌&&◌, ◌||◌, ◌==◌, if◌then◌else◌, nat_le, Bool, List, [], ◌∷◌, length, take, drop, codes, Option, Some, None, Result, Ok, Err}
-use Rattle.std.specs.Char.{is_ascii_lowercase, is_ascii_digit}
+use Rattle.std.specs.Prelude.{ℕ, ◌-◌, ◌||◌, ◌==◌, if◌then◌else◌, Bool, List, [], ◌∷◌, length, drop, codes, Option, Some, None, Result, Ok, Err}
 use Rattle.std.specs.List.{list_any, prefix_len, before_first}
-use Rattle.std.specs.Option.{ok_or}
 use Rattle.std.specs.Str.{bytes_eq}
-use Rattle.term_core.specs.Tree.{Tree, int, atom, tuple, no_trees, tree}
+use Rattle.term_core.specs.Tree.{Tree, atom, tuple, no_trees, tree}
+use Rattle.term_text.specs.Places.{read}
+use Rattle.term_text.specs.declared.error.TextErr.{TextErr}
+use Rattle.term_text.specs.declared.error.TextErr.TheVariants.{Bad, WideInt, TooDeep, Memory}
 use Rattle.mn_run.specs.Orders.{Order, put, get, bad}
 
 infixl 10 ◌>>=◌
@@ -24,37 +25,20 @@ text_at (b ∷ text) (c ∷ line) = if b == c then text_at text line else Err (l
 abbrev pub at_end : {A : Type 0} → A → List ℕ → Result A ℕ
 at_end x rest = if length rest == 0 then Ok x else Err (length rest)
 
--- the number that n and the digits in front make; none above the limit
-unfoldable pub digits_at : ℕ → ℕ → List ℕ → Option (ℕ × List ℕ)
-digits_at limit n [] = Some (n, [])
-digits_at limit n (b ∷ line) =
-    if is_ascii_digit b then (if nat_le (n * 10 + (b - 48)) limit then digits_at limit (n * 10 + (b - 48)) line else None) else Some (n, b ∷ line)
+-- how many bytes there are from the place on at which a term is refused
+abbrev pub left_at : ℕ → TextErr → ℕ
+left_at end (Bad at) = end - at
+left_at end (WideInt at) = end - at
+left_at end (TooDeep at) = end - at
+left_at end Memory = end
 
-abbrev pub is_positive_digit : ℕ → Bool
-is_positive_digit byte = is_ascii_digit byte && not (byte == 48)
+abbrev pub behind_term : List ℕ → Result (Tree × ℕ) TextErr → Result (Tree × List ℕ) ℕ
+behind_term line (Ok x) = Ok (x.0, drop x.1 line)
+behind_term line (Err e) = Err (left_at (length line) e)
 
--- a number from 1 on; where it is above the limit, this many bytes are refused
-unfoldable pub positive_at : ℕ → ℕ → List ℕ → Result (ℕ × List ℕ) ℕ
-positive_at limit refused [] = Err 0
-positive_at limit refused (b ∷ line) = if is_positive_digit b then ok_or (digits_at limit 0 (b ∷ line)) refused else Err (length (b ∷ line))
-
--- a number of 32 bits, refused at its first byte where it needs more
-unfoldable pub number_at : List ℕ → Result (Tree × List ℕ) ℕ
-number_at [] = Err 0
-number_at (b ∷ line) =
-    if b == 45 then (positive_at 2147483648 (length (b ∷ line)) line >>= λ n. Ok (int (neg_ℤ (pos n.0)), n.1))
-    else (if b == 48 then Ok (int (pos 0), line) else (positive_at 2147483647 (length (b ∷ line)) (b ∷ line) >>= λ n. Ok (int (pos n.0), n.1)))
-
--- an atom of small letters, at most 32
-unfoldable pub name_at : List ℕ → Result (Tree × List ℕ) ℕ
-name_at line =
-    let n = prefix_len is_ascii_lowercase line in
-    if nat_le n 32 then Ok (atom (take n line), drop n line) else Err (length line - 32)
-
--- a key or a value
+-- a key or a value: any term
 unfoldable pub field_at : List ℕ → Result (Tree × List ℕ) ℕ
-field_at [] = Err 0
-field_at (b ∷ line) = if is_ascii_lowercase b then name_at (b ∷ line) else number_at (b ∷ line)
+field_at line = behind_term line (read line 0)
 
 -- a record of the table `t`
 abbrev pub row : Tree → Tree → Tree

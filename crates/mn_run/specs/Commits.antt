@@ -1,28 +1,19 @@
 -- What a write puts into the log.
-use Rattle.std.specs.Prelude.{◌≡◌, ℕ, zero, suc, ◌≤◌, ◌<◌, true, pos, FitsSigned, List, [], ◌∷◌, length, codes, All, ⊤, Option, Some, None}
-use Rattle.std.specs.Char.{is_ascii_lowercase}
-use Rattle.std.specs.Int.{w32}
-use Rattle.std.specs.List.{list_all}
-use Rattle.term_core.specs.Tree.{Tree, int, atom, tuple, list, bin, Trees, no_trees, tree, inner}
+use Rattle.std.specs.Prelude.{◌≡◌, ℕ, zero, suc, ◌^◌, ◌≤◌, pos, List, [], ◌∷◌, length, codes, All, ⊤, Option, Some, None}
+use Rattle.term_core.specs.Tree.{Tree, int, atom, tuple, list, Trees, no_trees, tree, inner, depth}
 use Rattle.term_core.specs.Written.{canon}
 use Rattle.term_wire.specs.Spelling.{IsText}
 use Rattle.mn_run.specs.Commands.{row}
 
--- a number of 32 bits, or an atom of 1 to 32 letters from a to z
-abbrev pub IsSimple : Tree → Type 0
-IsSimple (int n) = FitsSigned w32 n
-IsSimple (atom text) = (0 < length text) × (length text ≤ 32) × (list_all is_ascii_lowercase text ≡ true)
-IsSimple (tuple ts) = ⊥
-IsSimple (list ts) = ⊥
-IsSimple (bin bytes) = ⊥
-
--- a record of the table t
+-- A record of the table t. Its key and its value nest over at most 100 levels, and the text that is written of it has at most
+-- 2^26 bytes.
 pub record IsRow (item : Tree) : Type 0 where
   pub key : Tree
   pub value : Tree
   pub is : item ≡ row key value
-  pub simple_key : IsSimple key
-  pub simple_value : IsSimple value
+  pub key_levels : depth key ≤ 100
+  pub value_levels : depth value ≤ 100
+  pub short : length (canon item) ≤ 2 ^ 26
 
 abbrev pub AreRows : List Tree → Type 0
 AreRows rows = All IsRow rows

@@ -1,15 +1,11 @@
 -- What the code's commands and replies are as plain data.
 use Rattle.std.specs.Prelude.{◌≡◌, ℕ, map, Result, Ok, Err}
-use Rattle.term_core.specs.Tree.{Tree, int, atom}
 use Rattle.term_core.specs.View.{tree_of}
 use Rattle.mn_run.specs.Orders.{Order, Answer}
 use Rattle.mn_run.specs.Orders as orders
 use Rattle.mn_run.specs.Commits.{IsRow}
-use Rattle.mn_run.specs.Commands.{row}
-use Rattle.mn_run.specs.declared.commands.Field.{Field}
-use Rattle.mn_run.specs.declared.commands.Field.TheVariants.{Number, Name}
-use Rattle.mn_run.specs.declared.commands.Request.{Request}
-use Rattle.mn_run.specs.declared.commands.Request.TheVariants as requests
+use Rattle.mn_run.specs.declared.commands.PartErr.{PartErr}
+use Rattle.mn_run.specs.declared.commands.PartErr.TheVariants as part
 use Rattle.mn_run.specs.declared.commands.Command.{Command}
 use Rattle.mn_run.specs.declared.commands.Command.TheVariants.{Put, Get, Badarg}
 use Rattle.mn_run.specs.declared.replies.Reply.{Reply}
@@ -29,19 +25,14 @@ answer replies.Stopped = orders.stopped
 answer replies.Memory = orders.no_memory
 answer replies.Fault = orders.fault
 
--- what a reader gives
-abbrev pub field_seen : Field → Tree
-field_seen (Number n) = int n
-field_seen (Name name) = atom name.now
+-- What a reader of the code answers is what reading on lists answers, unless memory is wanting.
+abbrev pub Refuses : {Y : Type 0} → PartErr → Result Y ℕ → Type 0
+Refuses (part.Bad left) read = read ≡ Err left
+Refuses part.Memory read = Unit {0}
 
-abbrev pub request_seen : Request → Order
-request_seen (requests.Put key value) = orders.put (row (field_seen key) (field_seen value))
-request_seen (requests.Get key) = orders.get (field_seen key)
-
--- What a reader of the code answers is what reading on lists answers.
-abbrev pub Gives : {X Y : Type 0} → (X → Y) → Result X ℕ → Result Y ℕ → Type 0
+abbrev pub Gives : {X Y : Type 0} → (X → Y) → Result X PartErr → Result Y ℕ → Type 0
 Gives view (Ok x) read = read ≡ Ok (view x)
-Gives view (Err left) read = read ≡ Err left
+Gives view (Err e) read = Refuses e read
 
 -- what is put is a record of the table
 abbrev pub AsksRow : Command → Type 0

@@ -1,20 +1,20 @@
 //! Lines as commands.
 
-ghost use Rattle.std.specs.Prelude.{◌≡◌, ◌≤◌, ◌<◌, ◌^◌, length, take, List, ◌++◌, ℕ, IfOk, IfSome, IsOk, OnErr, option_map};
-ghost use Rattle.std.specs.Str.{IsAscii};
-ghost use Rattle.std.specs.Char.{is_ascii_lowercase};
+ghost use Rattle.std.specs.Prelude.{◌≡◌, ◌≤◌, ◌<◌, length, List, ℕ, IfOk, IfSome, OnErr, option_map};
 ghost use Rattle.std.specs.List.{prefix_len, position_or_len};
 ghost use Rattle.term_core.specs.View.{tree_of};
 ghost use Rattle.mn_run.specs.Commands as lines;
-ghost use Rattle.mn_run.specs.Grammar.{IsCommand, IsMeant, IsBeforeField, IsLarge};
+ghost use Rattle.mn_run.specs.Grammar.{IsCommand, IsMeant, IsWrongField, NoCommand, HasKey};
 ghost use Rattle.mn_run.specs.Orders as orders;
 ghost use Rattle.mn_run.specs.Orders.{Order};
-ghost use Rattle.mn_run.specs.Seen.{order, field_seen, request_seen, Gives, AsksRow};
+ghost use Rattle.mn_run.specs.Seen.{order, Gives, AsksRow};
+ghost use Rattle.mn_run.specs.declared.lines.TheConstants.{MOST_LINE};
 
 use crate::terms::atom;
 use sqlite_items::Items;
 use std::alloc::{AllocError, Global};
 use term_core::Term;
+use term_text::{TextErr, read_term};
 
 /// What a line asks.
 #[derive(Drop)]
@@ -26,18 +26,13 @@ pub enum Command {
     Badarg(u64),
 }
 
-/// A key or a value.
+/// Why a line is no command.
 #[derive(Clone, Copy)]
-enum Field<'a> {
-    Number(i64),
-    Name(&'a str),
-}
-
-/// A command before memory is taken for it.
-#[derive(Clone, Copy)]
-enum Request<'a> {
-    Put(Field<'a>, Field<'a>),
-    Get(Field<'a>),
+enum PartErr {
+    /// No command goes on so from where so many bytes are left.
+    Bad(usize),
+    /// Memory was wanting.
+    Memory,
 }
 
 /// The words of commands that are not here yet.
@@ -80,30 +75,32 @@ const LATER: [&[u8]; 36] = [
     b"save_text",
 ];
 
-/// What the order of a line says: a command's line orders it, any other line is refused at its
-/// place, and a number of more than 32 bits at its first byte, whatever follows it.
-#[tactic(auto, using(crate::proofs::LineLaws::order_again, crate::proofs::LineLaws::order_means, crate::proofs::LineLaws::order_large))]
+/// What the order of a line says: a command's line orders it, and any other line is refused at its
+/// place. A key or a value that cannot be read is refused where reading its term refuses it, and,
+/// unless more is due there, no command begins with such a line.
+#[tactic(auto, using(crate::proofs::LineLaws::order_again, crate::proofs::LineLaws::order_means, crate::proofs::LineLaws::order_wrong, crate::proofs::LineLaws::order_never))]
 pub fn line_laws()
     ensures read { (line : List ℕ) (order : Order) → IsCommand line order → lines.order_of line ≡ Some order }
     ensures means { (line : List ℕ) → IsMeant line (lines.order_of line) }
-    ensures large { (front text more : List ℕ) → IsBeforeField front → IsLarge text
-        → lines.order_of (front ++ (text ++ more)) ≡ Some (orders.bad (length front)) }
+    ensures field { (line : List ℕ) (at : ℕ) → IsWrongField line at → lines.order_of line ≡ Some (orders.bad at) }
+    ensures never { (line : List ℕ) (at : ℕ) → IsWrongField line at → at < length line → NoCommand line }
 {}
 
-/// The command of a line, which comes without its line break. An empty line has none. Only a
-/// command that is read takes memory.
+/// The command of a line, which comes without its line break. An empty line has none. Memory is
+/// taken from the first key on.
 #[tactic(auto, using(crate::proofs::LineLaws::refused_within))]
 pub fn read_command(alloc: Global, line: &[u8]) -> Result<Option<Command>, AllocError>
     ensures command { IfOk result (λ command. option_map order command ≡ lines.order_of line.now) }
-    ensures row { IfOk result (λ command. IfSome command AsksRow) }
-    ensures memory { OnErr result (IsOk (lines.command_at line.now)) }
+    ensures row { length line.now ≤ MOST_LINE → IfOk result (λ command. IfSome command AsksRow) }
+    ensures memory { OnErr result (HasKey line.now) }
 {
     if line.is_empty() {
         return Ok(None);
     }
-    match read_request(line) {
-        Ok(request) => Ok(Some(command_of(alloc, request)?)),
-        Err(left) => Ok(Some(Command::Badarg(place(line, left)))),
+    match read_line(alloc, line) {
+        Ok(command) => Ok(Some(command)),
+        Err(PartErr::Bad(left)) => Ok(Some(Command::Badarg(place(line, left)))),
+        Err(PartErr::Memory) => Err(AllocError),
     }
 }
 
@@ -157,199 +154,96 @@ fn is_blank(byte: u8) -> bool
     byte == b' ' || byte == b'\t'
 }
 
-/// What follows the text in front, or how many bytes there are from the first that differs.
+/// What follows the text in front.
 #[tactic(auto, using(crate::proofs::Reading::text_goes_on, crate::proofs::Reading::text_differs, crate::proofs::Reading::text_ends, crate::proofs::Reading::text_done))]
-fn read_text<'a>(line: &'a [u8], text: &[u8]) -> Result<&'a [u8], usize>
-    ensures { Gives (λ rest. rest.now) result (lines.text_at text.now line.now) }
+fn read_text<'a>(line: &'a [u8], text: &[u8]) -> Result<&'a [u8], PartErr>
+    ensures part { Gives (λ rest. rest.now) result (lines.text_at text.now line.now) }
+    ensures memory { result ≡ Err PartErr.Memory → ⊥ }
 {
     for (i, byte) in text.iter().enumerate() {
         if i >= line.len() {
-            return Err(0);
+            return Err(PartErr::Bad(0));
         }
         if line[i] != *byte {
-            return Err(line.len() - i);
+            return Err(PartErr::Bad(line.len() - i));
         }
     }
     let (_, rest) = line.split_at(text.len());
     Ok(rest)
 }
 
-/// The number that the digits in front make, with the bytes behind it; none above the limit.
-#[tactic(auto, using(crate::proofs::Reading::digit_goes_on, crate::proofs::Reading::digit_large, crate::proofs::Reading::digits_end, crate::proofs::Reading::digits_done))]
-fn read_digits(line: &[u8], limit: u64) -> Option<(u64, &[u8])>
-    requires { limit < 2 ^ 32 }
-    ensures value { option_map (λ x. (x.0, x.1.now)) result ≡ lines.digits_at limit 0 line.now }
-    ensures within { IfSome result (λ x. x.0 ≤ limit) }
-{
-    let mut value = 0;
-    for (i, byte) in line.iter().enumerate() {
-        if !byte.is_ascii_digit() {
-            let (_, rest) = line.split_at(i);
-            return Some((value, rest));
-        }
-        value = value * 10 + u64::from(*byte - b'0');
-        if value > limit {
-            return None;
-        }
-    }
-    Some((value, &[]))
-}
-
-/// A number from 1 on. Where it is above the limit, this many bytes are refused.
-#[tactic(auto, unfolding(crate::specs::Commands::positive_at))]
-fn read_positive(line: &[u8], limit: u64, refused: usize) -> Result<(u64, &[u8]), usize>
-    requires { limit < 2 ^ 32 }
-    ensures value { Gives (λ x. (x.0, x.1.now)) result (lines.positive_at limit refused line.now) }
-    ensures within { IfOk result (λ x. x.0 ≤ limit) }
-{
-    let Some((first, _)) = line.split_first() else {
-        return Err(0);
-    };
-    if !is_positive_digit(*first) {
-        return Err(line.len());
-    }
-    read_digits(line, limit).ok_or(refused)
-}
-
-fn is_positive_digit(byte: u8) -> bool
-    ensures { result ≡ lines.is_positive_digit byte }
-{
-    byte.is_ascii_digit() && byte != b'0'
-}
-
-/// A number of 32 bits, refused at its first byte where it needs more.
-#[tactic(auto, unfolding(crate::specs::Commands::number_at))]
-fn read_number(line: &[u8]) -> Result<(Field<'_>, &[u8]), usize>
-    ensures { Gives (λ x. (field_seen x.0, x.1.now)) result (lines.number_at line.now) }
-{
-    let Some((first, rest)) = line.split_first() else {
-        return Err(0);
-    };
-    if *first == b'-' {
-        let (value, rest) = read_positive(rest, 2147483648, line.len())?;
-        return Ok((Field::Number(-(value as i64)), rest));
-    }
-    if *first == b'0' {
-        return Ok((Field::Number(0), rest));
-    }
-    let (value, rest) = read_positive(line, 2147483647, line.len())?;
-    Ok((Field::Number(value as i64), rest))
-}
-
-/// An atom of small letters, at most 32.
-#[tactic(auto, using(crate::proofs::Reading::ascii_is_utf8), unfolding(crate::specs::Commands::name_at))]
-fn read_name(line: &[u8]) -> Result<(Field<'_>, &[u8]), usize>
-    ensures { Gives (λ x. (field_seen x.0, x.1.now)) result (lines.name_at line.now) }
-{
-    let count = letters(line);
-    if count > 32 {
-        return Err(line.len() - 32);
-    }
-    let (name, rest) = line.split_at(count);
-    match str::from_utf8(name) {
-        Ok(name) => Ok((Field::Name(name), rest)),
-        Err(_) => unreachable!(),
-    }
-}
-
-/// How many small letters are in front.
-#[tactic(auto, using(crate::proofs::Reading::letters_are_ascii, crate::proofs::Reading::prefix_within))]
-fn letters(line: &[u8]) -> usize
-    ensures count { result ≡ prefix_len is_ascii_lowercase line.now }
-    ensures within { result ≤ length line.now }
-    ensures ascii { IsAscii (take result line.now) }
-{
-    line.iter()
-        .take_while(|byte| byte.is_ascii_lowercase())
-        .count()
-}
-
-/// A key or a value.
+/// A key or a value: any term.
 #[tactic(auto, unfolding(crate::specs::Commands::field_at))]
-fn read_field(line: &[u8]) -> Result<(Field<'_>, &[u8]), usize>
-    ensures { Gives (λ x. (field_seen x.0, x.1.now)) result (lines.field_at line.now) }
+fn read_field(alloc: Global, line: &[u8]) -> Result<(Term, &[u8]), PartErr>
+    ensures { Gives (λ x. (tree_of x.0, x.1.now)) result (lines.field_at line.now) }
 {
-    let Some((first, _)) = line.split_first() else {
-        return Err(0);
-    };
-    if first.is_ascii_lowercase() {
-        return read_name(line);
+    match read_term(alloc, line, 0) {
+        Ok((term, behind)) => {
+            let (_, rest) = line.split_at(behind);
+            Ok((term, rest))
+        }
+        Err(TextErr::Bad(at)) => Err(PartErr::Bad(line.len() - at)),
+        Err(TextErr::WideInt(at)) => Err(PartErr::Bad(line.len() - at)),
+        Err(TextErr::TooDeep(at)) => Err(PartErr::Bad(line.len() - at)),
+        Err(TextErr::Memory) => Err(PartErr::Memory),
     }
-    read_number(line)
 }
 
 /// `put t {t,K,V}`
-#[tactic(auto, unfolding(crate::specs::Commands::put_at))]
-fn read_put(line: &[u8]) -> Result<Request<'_>, usize>
-    ensures { Gives request_seen result (lines.put_at line.now) }
+#[tactic(auto, using(crate::proofs::Reading::key_of_put), unfolding(crate::specs::Commands::put_at))]
+fn read_put(alloc: Global, line: &[u8]) -> Result<Command, PartErr>
+    ensures part { Gives order result (lines.put_at line.now) }
+    ensures memory { result ≡ Err PartErr.Memory → HasKey line.now }
 {
     let rest = read_text(line, b"put t {t,")?;
-    let (key, rest) = read_field(rest)?;
+    let (key, rest) = read_field(alloc, rest)?;
     let rest = read_text(rest, b",")?;
-    let (value, rest) = read_field(rest)?;
+    let (value, rest) = read_field(alloc, rest)?;
     let rest = read_text(rest, b"}")?;
     if !rest.is_empty() {
-        return Err(rest.len());
+        return Err(PartErr::Bad(rest.len()));
     }
-    Ok(Request::Put(key, value))
-}
-
-/// `get t K`
-#[tactic(auto, unfolding(crate::specs::Commands::get_at))]
-fn read_get(line: &[u8]) -> Result<Request<'_>, usize>
-    ensures { Gives request_seen result (lines.get_at line.now) }
-{
-    let rest = read_text(line, b"get t ")?;
-    let (key, rest) = read_field(rest)?;
-    if !rest.is_empty() {
-        return Err(rest.len());
-    }
-    Ok(Request::Get(key))
-}
-
-/// The request, or how many bytes there are from the first that no command has there.
-#[tactic(auto, unfolding(crate::specs::Commands::command_at))]
-fn read_request(line: &[u8]) -> Result<Request<'_>, usize>
-    ensures { Gives request_seen result (lines.command_at line.now) }
-{
-    let Some((first, _)) = line.split_first() else {
-        return Err(0);
-    };
-    if *first == b'p' {
-        return read_put(line);
-    }
-    if *first == b'g' {
-        return read_get(line);
-    }
-    Err(line.len())
-}
-
-fn field_term(alloc: Global, field: Field<'_>) -> Result<Term, AllocError>
-    ensures { IfOk result (λ t. tree_of t ≡ field_seen field.entry) }
-{
-    match field {
-        Field::Number(n) => Ok(Term::Int(i128::from(n))),
-        Field::Name(name) => atom(alloc, name),
+    match table_row(alloc, key, value) {
+        Ok(row) => Ok(Command::Put(row)),
+        Err(AllocError) => Err(PartErr::Memory),
     }
 }
 
 /// A record of the table `t`.
-fn table_row(alloc: Global, key: Field<'_>, value: Field<'_>) -> Result<Term, AllocError>
-    ensures { IfOk result (λ t. tree_of t ≡ lines.row (field_seen key.entry) (field_seen value.entry)) }
+fn table_row(alloc: Global, key: Term, value: Term) -> Result<Term, AllocError>
+    ensures { IfOk result (λ t. tree_of t ≡ lines.row (tree_of key) (tree_of value)) }
 {
     let mut items = Items::new(alloc);
     items.push(atom(alloc, "t")?)?;
-    items.push(field_term(alloc, key)?)?;
-    items.push(field_term(alloc, value)?)?;
+    items.push(key)?;
+    items.push(value)?;
     Ok(Term::Tuple(items))
 }
 
-fn command_of(alloc: Global, request: Request<'_>) -> Result<Command, AllocError>
-    ensures { IfOk result (λ c. order c ≡ request_seen request.entry) }
+/// `get t K`
+#[tactic(auto, using(crate::proofs::Reading::key_of_get), unfolding(crate::specs::Commands::get_at))]
+fn read_get(alloc: Global, line: &[u8]) -> Result<Command, PartErr>
+    ensures part { Gives order result (lines.get_at line.now) }
+    ensures memory { result ≡ Err PartErr.Memory → HasKey line.now }
 {
-    match request {
-        Request::Put(key, value) => Ok(Command::Put(table_row(alloc, key, value)?)),
-        Request::Get(key) => Ok(Command::Get(field_term(alloc, key)?)),
+    let rest = read_text(line, b"get t ")?;
+    let (key, rest) = read_field(alloc, rest)?;
+    if !rest.is_empty() {
+        return Err(PartErr::Bad(rest.len()));
+    }
+    Ok(Command::Get(key))
+}
+
+/// The command of a line, by its first byte.
+#[tactic(auto, unfolding(crate::specs::Commands::command_at))]
+fn read_line(alloc: Global, line: &[u8]) -> Result<Command, PartErr>
+    ensures part { Gives order result (lines.command_at line.now) }
+    ensures memory { result ≡ Err PartErr.Memory → HasKey line.now }
+{
+    match line.first() {
+        Some(b'p') => read_put(alloc, line),
+        Some(b'g') => read_get(alloc, line),
+        _ => Err(PartErr::Bad(line.len())),
     }
 }
 
@@ -370,16 +264,30 @@ mod tests {
     fn lines_are_refused_at_their_places(rt: HostRuntime) -> Result<(), Fail> {
         let lines = [
             ("put t {t,1,a}", None),
-            ("get t abcdefghijklmnopqrstuvwxyzabcdef", None),
-            ("get t -2147483648", None),
+            ("put t {t,<<\"key\">>,[1,{x,-7},\"text\"]}", None),
+            ("put t {t,{ 1 , 'b c' },[ ]}", None),
+            ("get t -170141183460469231731687303715884105728", None),
             ("", None),
-            ("put t {t,1,\"x\"}", Some(11)),
             ("put t {t,1,a", Some(12)),
+            ("put t {t,1,\"x", Some(13)),
             ("put u {u,1,a}", Some(4)),
-            ("put t {t,a,-2147483649}", Some(11)),
-            ("get t 2147483648", Some(6)),
+            ("put t {t,1}", Some(10)),
+            ("put t {t,1,2,3}", Some(12)),
+            ("put t {t, 1,a}", Some(9)),
+            ("put t {t,1,a }", Some(12)),
+            ("put t {t,1,a} ", Some(13)),
+            (
+                "put t {t,1,170141183460469231731687303715884105728}",
+                Some(11),
+            ),
+            ("get t [-170141183460469231731687303715884105729]", Some(7)),
+            ("get t <<1,256>>", Some(10)),
+            ("get t {1,}", Some(9)),
+            ("get t \"\\x{110000}\"", Some(7)),
             ("gex t 1", Some(2)),
             ("get t", Some(5)),
+            ("get t\"a\"", Some(5)),
+            ("get t  1", Some(6)),
             ("get t 1 2", Some(7)),
             ("get T 1", Some(4)),
             ("get t 01", Some(7)),
@@ -389,11 +297,44 @@ mod tests {
             ("start", Some(0)),
             ("generate", Some(0)),
             ("generated", Some(2)),
-            ("get t abcdefghijklmnopqrstuvwxyzabcdefg", Some(38)),
         ];
         for (line, place) in lines {
             assert_eq!(rt; refused_at(rt.alloc(), line)?, place, "{line}");
         }
+        Ok(())
+    }
+
+    // `get t ` and this byte so many times.
+    fn repeated(alloc: Global, byte: u8, count: usize) -> Result<Vec<u8>, AllocError> {
+        let mut line = Vec::new(alloc);
+        line.extend_from_slice(b"get t ")?;
+        line.resize(6 + count, byte)?;
+        Ok(line)
+    }
+
+    #[test]
+    fn levels_and_characters_have_bounds(rt: HostRuntime) -> Result<(), Fail> {
+        let alloc = rt.alloc();
+        let fronts = [
+            (b'a', 255, None),
+            (b'a', 256, Some(261)),
+            (b'[', 100, Some(106)),
+            (b'[', 101, Some(106)),
+        ];
+        for (byte, count, place) in fronts {
+            let line = repeated(alloc, byte, count)?;
+            match read_command(alloc, &line)? {
+                Some(Command::Badarg(at)) => assert_eq!(rt; Some(at), place),
+                _ => assert_eq!(rt; place, None),
+            }
+        }
+        let mut line = repeated(alloc, b'[', 100)?;
+        line.resize(206, b']')?;
+        let Some(Command::Get(key)) = read_command(alloc, &line)? else {
+            assert!(rt; false);
+            return Ok(());
+        };
+        assert!(rt; key.depth_within(100) && !key.depth_within(99));
         Ok(())
     }
 

@@ -1,8 +1,6 @@
 //! What a write puts into the log, and what such an item says.
 
-ghost use Rattle.std.specs.Prelude.{◌≡◌, ◌↔◌, ◌∷◌, [], length, ◌<◌, ◌≤◌, true, false, Ok, IfOk, IsTrue, Some, None, MatchOption};
-ghost use Rattle.std.specs.Char.{is_ascii_lowercase};
-ghost use Rattle.std.specs.List.{list_all};
+ghost use Rattle.std.specs.Prelude.{◌≡◌, ◌↔◌, Ok, IfOk, OnOk, IsTrue, Some, None, MatchOption};
 ghost use Rattle.std.specs.Option.{option_map};
 ghost use Rattle.term_core.specs.Tree.{Tree};
 ghost use Rattle.term_core.specs.View.{tree_of};
@@ -12,11 +10,17 @@ ghost use Rattle.log_items.specs.Items.{item_bytes};
 ghost use Rattle.mn_run.specs.Commits as commits;
 
 use crate::terms::{atom, copied};
-use log_items::put_item;
+use log_items::{ItemErr, put_item};
 use sqlite_items::Items;
 use std::alloc::{AllocError, Global};
-use term_core::Term;
-use term_wire::{WireErr, decode, encode};
+use term_core::{Term, wire_len};
+use term_wire::{EncodeErr, WireErr, decode, encode};
+
+/// The levels of the deepest key or value.
+const MOST_LEVELS: u32 = 100;
+
+/// The bytes of the longest record's text.
+const MOST_ROW_BYTES: u64 = 1 << 26;
 
 /// The text of the first item of a log, `{log1}`.
 pub const HEAD_TEXT: [u8; 9] = [131, 104, 1, 119, 4, 108, 111, 103, 49];
@@ -62,30 +66,34 @@ fn is_log_head(alloc: Global, term: &Term) -> Result<bool, AllocError>
     Ok(Term::Tuple(parts) == *term)
 }
 
-/// The whole item of the commit that writes this record.
+/// The whole item of the commit that writes this record. Only memory may be wanting.
 #[tactic(auto, using(crate::proofs::CommitTexts::row_small))]
 pub fn commit_item(alloc: Global, row: &Term) -> Result<Vec<u8>, AllocError>
     requires { commits.IsRow (tree_of row.now) }
-    ensures { IfOk result (λ item. item.items ≡ item_bytes (commits.commit_text (tree_of row.now))) }
+    ensures item { IfOk result (λ item. item.items ≡ item_bytes (commits.commit_text (tree_of row.now))) }
+    // The item's content is a text of the commit.
+    ensures commit { OnOk result (commits.IsCommit (commits.commit_text (tree_of row.now)) (tree_of row.now)) }
 {
     let text = commit_text(alloc, row)?;
     let mut item = Vec::new(alloc);
     match put_item(&text, &mut item) {
         Ok(()) => Ok(item),
-        // A commit is not too long.
-        Err(_) => Err(AllocError),
+        Err(ItemErr::Memory) => Err(AllocError),
+        Err(ItemErr::TooLong) | Err(ItemErr::Bad(_)) => unreachable!(),
     }
 }
 
 fn commit_text(alloc: Global, row: &Term) -> Result<Vec<u8>, AllocError>
-    ensures { IfOk result (λ text. text.items ≡ commits.commit_text (tree_of row.now)) }
+    requires { commits.IsRow (tree_of row.now) }
+    ensures text { IfOk result (λ text. text.items ≡ commits.commit_text (tree_of row.now)) }
+    ensures commit { OnOk result (commits.IsCommit (commits.commit_text (tree_of row.now)) (tree_of row.now)) }
 {
     let commit = commit_of(alloc, row)?;
     let mut text = Vec::new(alloc);
     match encode(&commit, &mut text) {
         Ok(()) => Ok(text),
-        // A commit is neither too deep nor too long.
-        Err(_) => Err(AllocError),
+        Err(EncodeErr::Memory) => Err(AllocError),
+        Err(EncodeErr::TooDeep) | Err(EncodeErr::TooLong) => unreachable!(),
     }
 }
 
@@ -132,10 +140,13 @@ fn row_written(alloc: Global, commit: &Term) -> Result<Option<Term>, AllocError>
     let Some((key, value)) = fields_written(commit) else {
         return Ok(None);
     };
-    if !is_simple(key) || !is_simple(value) {
+    if !key.depth_within(MOST_LEVELS) || !value.depth_within(MOST_LEVELS) {
         return Ok(None);
     }
     let row = row_with(alloc, key, value)?;
+    if wire_len(&row) > MOST_ROW_BYTES {
+        return Ok(None);
+    }
     if commit_of(alloc, &row)? == *commit {
         return Ok(Some(row));
     }
@@ -161,30 +172,6 @@ fn part(term: &Term, at: usize) -> Option<&Term>
         Term::List(parts) => parts.get(at),
         Term::Int(_) | Term::Atom(_) | Term::Bin(_) => None,
     }
-}
-
-/// Whether a record may have it as its key or its value.
-fn is_simple(field: &Term) -> bool
-    ensures { IsTrue result ↔ commits.IsSimple (tree_of field.now) }
-{
-    match field {
-        Term::Int(number) => -2_147_483_648 <= *number && *number <= 2_147_483_647,
-        Term::Atom(name) => is_name(name.text().as_bytes()),
-        Term::Tuple(_) | Term::List(_) | Term::Bin(_) => false,
-    }
-}
-
-/// 1 to 32 small letters.
-fn is_name(bytes: &[u8]) -> bool
-    ensures { IsTrue result ↔ (0 < length bytes.now) × (length bytes.now ≤ 32) × (list_all is_ascii_lowercase bytes.now ≡ true) }
-{
-    !bytes.is_empty() && bytes.len() <= 32 && are_letters(bytes)
-}
-
-fn are_letters(bytes: &[u8]) -> bool
-    ensures { result ≡ list_all is_ascii_lowercase bytes.now }
-{
-    bytes.iter().all(|byte| byte.is_ascii_lowercase())
 }
 
 /// `{t,Key,Value}`
@@ -234,6 +221,94 @@ mod tests {
             let found = row_of(rt.alloc(), content)?;
             assert_eq!(rt; found.is_some(), is_commit);
             assert!(rt; found.is_none_or(|other| other == row));
+        }
+        Ok(())
+    }
+
+    // The commit of a record with these texts of a key and a value.
+    fn commit_with(alloc: Global, key: &[u8], value: &[u8]) -> Result<Vec<u8>, AllocError> {
+        let mut content = Vec::new(alloc);
+        content.extend_from_slice(&COMMIT[..36])?;
+        content.extend_from_slice(key)?;
+        content.extend_from_slice(value)?;
+        content.push(106)?;
+        Ok(content)
+    }
+
+    // Whether that commit is read as the one of this record.
+    fn is_read(
+        alloc: Global,
+        texts: (&[u8], &[u8]),
+        key: &Term,
+        value: &Term,
+    ) -> Result<bool, AllocError> {
+        let content = commit_with(alloc, texts.0, texts.1)?;
+        let row = row_with(alloc, key, value)?;
+        let found = row_of(alloc, &content)?;
+        Ok(found.is_some_and(|other| other == row))
+    }
+
+    fn pair(alloc: Global) -> Result<Items<Term>, AllocError> {
+        let mut parts = Items::new(alloc);
+        parts.push(atom(alloc, "a")?)?;
+        parts.push(Term::Int(1))?;
+        Ok(parts)
+    }
+
+    #[test]
+    fn keys_and_values_are_any_terms(rt: HostRuntime) -> Result<(), Fail> {
+        let alloc = rt.alloc();
+        // {a,1} and [a,1]
+        let texts = (
+            [104, 2, 119, 1, 97, 97, 1],
+            [108, 0, 0, 0, 2, 119, 1, 97, 97, 1, 106],
+        );
+        let tuple = Term::Tuple(pair(alloc)?);
+        let list = Term::List(pair(alloc)?);
+        assert!(rt; is_read(alloc, (&texts.0, &texts.1), &tuple, &list)?);
+        // 2^127 - 1 and <<0,255>>
+        let texts = (
+            [
+                110, 16, 0, 255, 255, 255, 255, 255, 255, 255, 255, 255, 255, 255, 255, 255, 255,
+                255, 127,
+            ],
+            [109, 0, 0, 0, 2, 0, 255],
+        );
+        let mut bytes = Items::new(alloc);
+        bytes.push(0)?;
+        bytes.push(255)?;
+        assert!(rt;
+            is_read(
+                alloc,
+                (&texts.0, &texts.1),
+                &Term::Int(i128::MAX),
+                &Term::Bin(bytes)
+            )?
+        );
+        Ok(())
+    }
+
+    // {{..{[]}..}} of so many levels
+    fn nested(alloc: Global, levels: usize) -> Result<Term, AllocError> {
+        let mut term = Term::List(Items::new(alloc));
+        for _ in 1..levels {
+            let mut parts = Items::new(alloc);
+            parts.push(term)?;
+            term = Term::Tuple(parts);
+        }
+        Ok(term)
+    }
+
+    #[test]
+    fn a_value_has_at_most_100_levels(rt: HostRuntime) -> Result<(), Fail> {
+        for levels in 100..102 {
+            let value = nested(rt.alloc(), levels)?;
+            let row = row_with(rt.alloc(), &Term::Int(1), &value)?;
+            let mut content = Vec::new(rt.alloc());
+            let encoded = encode(&commit_of(rt.alloc(), &row)?, &mut content);
+            assert!(rt; encoded.is_ok());
+            let found = row_of(rt.alloc(), &content)?;
+            assert_eq!(rt; found.is_some(), levels == 100);
         }
         Ok(())
     }

@@ -112,13 +112,15 @@ fn a_second_run_reads_what_the_first_one_kept(rt: HostRuntime) -> Result<(), Fai
     let mut disk = MemDisk::new(rt.alloc());
     let (status, _) = ran(rt.alloc(), &mut disk, SCRIPT.as_bytes(), whole(7))?;
     assert_eq!(rt; status, Status::Done);
-    let script = b"get t 2\nget t and\nput t {t,3,c}\nget t 1".as_slice();
+    let script =
+        b"get t 2\nget t and\nput t {t,<<\"key\">>,[1,{x,-7},\"text\"]}\nget t 1".as_slice();
     let (status, replies) = ran(rt.alloc(), &mut disk, script, whole(7))?;
     assert_eq!(rt; status, Status::Done);
     let expected = b"{started,0}\n[{t,2,b}]\n[{t,'and',-1}]\n{atomic,ok}\n[]\n".as_slice();
     assert_eq!(rt; replies.as_slice(), expected);
-    let (_, replies) = ran(rt.alloc(), &mut disk, b"get t 3", whole(7))?;
-    assert_eq!(rt; replies.as_slice(), b"{started,0}\n[{t,3,c}]\n".as_slice());
+    let (_, replies) = ran(rt.alloc(), &mut disk, b"get t <<107,101,121>>", whole(7))?;
+    let expected = b"{started,0}\n[{t,<<107,101,121>>,[1,{x,-7},[116,101,120,116]]}]\n".as_slice();
+    assert_eq!(rt; replies.as_slice(), expected);
     Ok(())
 }
 
