@@ -1,11 +1,12 @@
 ghost use Rattle.std.specs.Prelude.{◌≤◌, length, IfOk, OnOk};
-ghost use Rattle.file_trait.specs.MemDisk.{disk_past};
+ghost use Rattle.file_mem.specs.MemDisk.{disk_past};
 ghost use Rattle.file_trait.specs.Name.{IsName};
 ghost use Rattle.log_items.specs.Items.{IsContent};
 ghost use Rattle.disk_logs.specs.Logs.{AreItems, IsLog};
 
 use crate::{Chunk, Log, LogErr, chunk};
-use file_trait::{FileName, MemDisk};
+use file_mem::MemDisk;
+use file_trait::FileName;
 use log_items::{ItemErr, put_item};
 use std::alloc::Global;
 use std::test::Fail;

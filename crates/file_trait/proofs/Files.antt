@@ -1,7 +1,7 @@
 -- How the files read after one thing is done.
 use Rattle.std.proofs.Common.{◌≡◌, ◌≢◌, ℕ, ◌≤◌, Bool, true, false, if◌then◌else◌, List, [], Option, None, Some, option_map, unwrap_or, refl, ap, ◌∙◌, arith}
 use Rattle.file_trait.specs.DiskModel.{Past, handed, did, FileOp, DiskOp, Spares, to_file, to_dir, sync, sync_dir, create, rename, remove, FileId, first, made, clock, same_name, named, changed, content, reads}
-use Rattle.file_trait.proofs.Names.{same_name_refl, same_name_true, same_name_false, is_file_some, is_file_other, young, apart, other_name}
+use Rattle.file_trait.proofs.Names.{same_name_refl, same_name_true, same_name_false, is_file_some, is_file_other, young, apart, if_other}
 
 pub content_self : (past : Past) (name : List ℕ) (op : FileOp) (i : FileId) → named past name ≡ Some i → content (did (to_file name op) past) i ≡ changed op (content past i)
 content_self past name op i is = ap (λ b. if b then changed op (content past i) else content past i) (is_file_some (named past name) i is)
@@ -60,9 +60,6 @@ pub reads_remove : (past : Past) (name other : List ℕ) → reads (did (to_dir 
 reads_remove past name other = map_if (content past) (same_name name other) None (named past other)
 
 -- ---- other files
-
-if_other : {A : Type 0} (name other : List ℕ) (x y : A) → name ≢ other → (if same_name name other then x else y) ≡ y
-if_other name other x y apart = ap (λ b. if b then x else y) (other_name name other apart)
 
 -- a file that it does not name reads as before
 pub reads_other : (past : Past) (op : DiskOp) (other : List ℕ) → Spares op other → reads (did op past) other ≡ reads past other

@@ -1,7 +1,13 @@
 pub mod Causes
+pub mod Changes
+pub mod Durable
 pub mod Files
-pub mod Found
-pub mod Kept
+pub mod Frames
+pub mod Images
+pub mod Moments
 pub mod Names
 pub mod Padded
+pub mod Reached
+pub mod Shown
+pub mod Touched
 pub mod Writes

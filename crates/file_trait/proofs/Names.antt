@@ -110,3 +110,6 @@ apart (did (to_dir (remove name)) past) a b i h g = apart past a b i (remove_cas
 
 pub other_name : (a b : List ℕ) → a ≢ b → same_name a b ≡ false
 other_name a b apart = elim (cases_Bool (same_name a b)) [ inl same ↦ absurd (apart (same_name_true a b same)) | inr is ↦ is ]
+
+pub if_other : {A : Type 0} (name other : List ℕ) (x y : A) → name ≢ other → (if same_name name other then x else y) ≡ y
+if_other name other x y apart = ap (λ b. if b then x else y) (other_name name other apart)

@@ -1,9 +1,9 @@
 -- What the calls of a disk do.
-use Rattle.std.specs.Prelude.{◌≡◌, ◌⊎◌, ℕ, ◌<◌, ◌≤◌, List, ◌++◌, length, take, drop, None, Some, IsSome, Result, Ok, Err, IsErrOf}
+use Rattle.std.specs.Prelude.{◌≡◌, ◌⊎◌, ℕ, ◌+◌, ◌<◌, ◌≤◌, List, ◌++◌, length, take, drop, Option, None, Some, IsSome, Result, Ok, Err, IsErrOf}
 use Rattle.file_trait.specs.declared.disk.DiskErr.{DiskErr}
 use Rattle.file_trait.specs.declared.disk.DiskErr.TheVariants.{Failed, Memory}
 use Rattle.file_trait.specs.Counts.{Rose}
-use Rattle.file_trait.specs.DiskModel.{Past, did, DiskOp, to_file, sync, sync_dir, append, reads}
+use Rattle.file_trait.specs.DiskModel.{Past, did, DiskOp, FileId, to_file, sync, sync_dir, append, named, content, reads, FileLeaves, DirLeaves}
 
 abbrev pub IsThere : Past → List ℕ → Type 0
 IsThere past name = IsSome (reads past name)
@@ -27,14 +27,22 @@ Appended name bytes (Ok done) old new = new ≡ did (to_file name (append bytes)
 Appended name bytes (Err Failed) old new = (new ≡ old) ⊎ ((k : ℕ) × (k ≤ length bytes) × (new ≡ did (to_file name (append (take k bytes))) old))
 Appended name bytes (Err Memory) old new = new ≡ old
 
--- the file is synced; where nothing was pending this may leave no trace
+-- whatever a crash leaves of the file that has this name now is what it reads as
+abbrev pub IsDurable : Past → List ℕ → Type 0
+IsDurable past name = (i : FileId) → named past name ≡ Some i → (bytes : List ℕ) → FileLeaves past i bytes → bytes ≡ content past i
+
+-- whatever directory a crash leaves is the one that is read
+abbrev pub IsDirDurable : Past → Type 0
+IsDirDurable past = (names : List ℕ → Option FileId) → DirLeaves past names → names ≡ named past
+
+-- the file is synced; where nothing was pending this may take no moment
 abbrev pub Synced : List ℕ → Result Unit DiskErr → Past → Past → Type 0
-Synced name (Ok done) old new = (new ≡ did (sync name) old) ⊎ (new ≡ old)
+Synced name (Ok done) old new = (new ≡ did (sync name) old) ⊎ ((new ≡ old) × IsDurable old name)
 Synced name (Err Failed) old new = (new ≡ old) ⊎ (new ≡ did (sync name) old)
 Synced name (Err Memory) old new = ⊥
 
 abbrev pub SyncedDir : Result Unit DiskErr → Past → Past → Type 0
-SyncedDir (Ok done) old new = (new ≡ did sync_dir old) ⊎ (new ≡ old)
+SyncedDir (Ok done) old new = (new ≡ did sync_dir old) ⊎ ((new ≡ old) × IsDirDurable old)
 SyncedDir (Err Failed) old new = (new ≡ old) ⊎ (new ≡ did sync_dir old)
 SyncedDir (Err Memory) old new = ⊥
 
@@ -51,3 +59,7 @@ pub record Cause {T : Type 0} (names : List (List ℕ)) (faults faults_now : ℕ
   pub failed : IsErrOf result Failed → Rose faults faults_now
   pub blames : IsErrOf result Failed → blamed_now ≡ names
   pub as_before : (IsErrOf result Failed → ⊥) → blamed_now ≡ blamed
+
+-- a call that changes the disk takes a moment at most, and one that looks takes none
+abbrev pub Follows : ℕ → ℕ → Type 0
+Follows before now = (before ≤ now) × (now ≤ before + 1)

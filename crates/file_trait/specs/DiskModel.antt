@@ -1,5 +1,5 @@
--- A disk by what was done to it: how its directory and files read.
-use Rattle.std.specs.Prelude.{◌≢◌, ℕ, ◌+◌, Bool, false, if◌then◌else◌, List, [], ◌++◌, take, drop, nat_eq, Option, None, Some, option_map, unwrap_or}
+-- A disk by what was done to it: how its directory and files read, and what a crash may leave of them.
+use Rattle.std.specs.Prelude.{◌≡◌, ◌≢◌, ◌⊎◌, ℕ, ◌+◌, ◌≤◌, Bool, false, if◌then◌else◌, List, [], ◌∷◌, ◌++◌, length, take, drop, nat_eq, nat_lt, Option, None, Some, option_map, unwrap_or}
 use Rattle.std.specs.Cmp.Lexicographic.{pointwise}
 
 -- ---- what may be done
@@ -97,3 +97,71 @@ content (did sync_dir past) i = content past i
 -- the files as they read
 abbrev pub reads : Past → List ℕ → Option (List ℕ)
 reads past name = option_map (content past) (named past name)
+
+-- ---- what a crash may leave
+
+-- all of it is done, or of an append a front
+abbrev pub PartDone : FileOp → List ℕ → List ℕ → Type 0
+PartDone (append bytes) old new = (k : ℕ) × (k ≤ length bytes) × (new ≡ old ++ take k bytes)
+PartDone (mark four) old new = new ≡ changed (mark four) old
+PartDone (cut len) old new = new ≡ changed (cut len) old
+
+-- of one file: what was done to it since its last sync, up to some point
+abbrev pub FileLeaves : Past → FileId → List ℕ → Type 0
+FileLeaves (handed files) i bytes = bytes ≡ handed_bytes files i
+FileLeaves (did (to_file name op) past) i bytes = FileLeaves past i bytes ⊎ ((named past name ≡ Some i) × PartDone op (content past i) bytes)
+FileLeaves (did (sync name) past) i bytes = FileLeaves past i bytes × (named past name ≡ Some i → bytes ≡ content past i)
+FileLeaves (did (to_dir op) past) i bytes = FileLeaves past i bytes
+FileLeaves (did sync_dir past) i bytes = FileLeaves past i bytes
+
+-- of the directory: what was done to it since its last sync, up to some point
+abbrev pub DirLeaves : Past → (List ℕ → Option FileId) → Type 0
+DirLeaves (handed files) names = names ≡ named (handed files)
+DirLeaves (did (to_dir op) past) names = DirLeaves past names ⊎ (names ≡ named (did (to_dir op) past))
+DirLeaves (did sync_dir past) names = names ≡ named past
+DirLeaves (did (to_file name op) past) names = DirLeaves past names
+DirLeaves (did (sync name) past) names = DirLeaves past names
+
+-- a crash may leave these files: the directory up to some point, and each file by itself up to some point
+pub record IsImage (past : Past) (image : List ℕ → Option (List ℕ)) : Type 0 where
+  pub names : List ℕ → Option FileId
+  pub bytes : FileId → List ℕ
+  pub directory : DirLeaves past names
+  pub each : (i : FileId) → FileLeaves past i (bytes i)
+  pub is : (name : List ℕ) → image name ≡ option_map bytes (names name)
+
+-- each crash leaves files of which P holds
+abbrev pub Crashes : ((List ℕ → Option (List ℕ)) → Type 0) → Past → Type 0
+Crashes P past = (image : List ℕ → Option (List ℕ)) → IsImage past image → P image
+
+-- whatever a crash leaves, the name stands for what it stands for now
+abbrev pub IsSettled : Past → List ℕ → Type 0
+IsSettled past name = (names : List ℕ → Option FileId) → DirLeaves past names → names name ≡ named past name
+
+-- These files are some that a crash could leave before, but that one name may stand for what all of the change, or a front of
+-- an append, makes of the file that reads under `name`.
+pub record Partly (past : Past) (name : List ℕ) (op : FileOp) (image : List ℕ → Option (List ℕ)) : Type 0 where
+  pub earlier : List ℕ → Option (List ℕ)
+  pub is : IsImage past earlier
+  pub bytes : List ℕ
+  pub each : (other : List ℕ) → (image other ≡ earlier other) ⊎ ((old : List ℕ) × (reads past name ≡ Some old) × PartDone op old bytes × (image other ≡ Some bytes))
+  pub alone : (a b : List ℕ) → image a ≢ earlier a → image b ≢ earlier b → a ≡ b
+
+-- it does nothing to this file, whatever the file is called
+abbrev pub SparesFile : Past → DiskOp → FileId → Type 0
+SparesFile past (to_file name op) i = named past name ≢ Some i
+SparesFile past (to_dir op) i = Unit {0}
+SparesFile past (sync name) i = named past name ≢ Some i
+SparesFile past sync_dir i = Unit {0}
+
+-- ---- moments
+
+-- the disk as it was at a moment that it has reached
+abbrev pub at_moment : ℕ → Past → Past
+at_moment moment (handed files) = handed files
+at_moment moment (did op past) = if nat_lt (clock past) moment then did op past else at_moment moment past
+
+-- what was done first, with these after it, the newest first
+abbrev pub doing : List DiskOp → Past → Past
+doing [] past = past
+doing (op ∷ ops) past = did op (doing ops past)

@@ -1,12 +1,10 @@
 pub mod Calls
 pub mod Counts
-pub mod Directory
 pub mod DiskModel
 pub mod Faults
-pub mod MemDisk
-pub mod MemStreams
-pub mod Memory
+pub mod Moments
 pub mod Name
 pub mod Padded
+pub mod Shown
 pub mod Streams
-pub mod Tally
+pub mod Touched

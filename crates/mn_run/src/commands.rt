@@ -252,6 +252,7 @@ mod tests {
     use super::*;
     use crate::replies::{Reply, print_reply};
     use std::test::Fail;
+    use std::vec;
 
     fn refused_at(alloc: Global, line: &str) -> Result<Option<u64>, AllocError> {
         match read_command(alloc, line.as_bytes())? {
@@ -308,7 +309,7 @@ mod tests {
     fn repeated(alloc: Global, byte: u8, count: usize) -> Result<Vec<u8>, AllocError> {
         let mut line = Vec::new(alloc);
         line.extend_from_slice(b"get t ")?;
-        line.resize(6 + count, byte)?;
+        line.extend_from_slice(&vec![in alloc; byte; count]?)?;
         Ok(line)
     }
 

@@ -5,7 +5,6 @@
 mod asks;
 mod commands;
 mod commits;
-mod host;
 mod laws;
 mod lines;
 mod names;
@@ -20,7 +19,6 @@ mod terms;
 mod words;
 
 pub use commands::line_laws;
-pub use host::{HostDisk, HostIn, HostOut};
 pub use laws::directory_law;
 pub use outcome::{Outcome, Status};
 pub use running::run;

@@ -69,19 +69,19 @@ fn print_records(records: &[Term], out: &mut Vec<u8>) -> Result<(), AllocError>
 fn print_all(records: &[Term], out: &mut Vec<u8>) -> Result<(), AllocError>
     ensures { OnOk result (out.new.items ≡ out.old.items ++ trees_text (forest_of records.now)) }
 {
-    for (i, record) in records.iter().enumerate() {
+    for (i, term) in records.iter().enumerate() {
         if i > 0 {
             out.push(b',')?;
         }
-        print_record(record, out)?;
+        print_record(term, out)?;
     }
     Ok(())
 }
 
-fn print_record(record: &Term, out: &mut Vec<u8>) -> Result<(), AllocError>
-    ensures { OnOk result (out.new.items ≡ out.old.items ++ printed (tree_of record.now)) }
+fn print_record(term: &Term, out: &mut Vec<u8>) -> Result<(), AllocError>
+    ensures { OnOk result (out.new.items ≡ out.old.items ++ printed (tree_of term.now)) }
 {
-    match print_term(record, out) {
+    match print_term(term, out) {
         Ok(()) => Ok(()),
         // Only memory may be wanting.
         Err(_) => Err(AllocError),

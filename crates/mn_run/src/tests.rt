@@ -1,7 +1,8 @@
 //! Runs over a disk, a source and a sink in memory.
 
 use crate::{Status, run};
-use file_trait::{FileName, MemDisk, MemSink, MemSource};
+use file_mem::{MemDisk, MemSink, MemSource};
+use file_trait::FileName;
 use std::alloc::{AllocError, Global};
 use std::test::Fail;
 use std::vec;
@@ -72,7 +73,7 @@ fn the_last_put_wins_in_pieces_of_any_size(rt: HostRuntime) -> Result<(), Fail> 
 fn a_fault_ends_the_run_with_a_front_of_the_replies(rt: HostRuntime) -> Result<(), Fail> {
     for call in 1..14 {
         let mut disk = MemDisk::new(rt.alloc());
-        disk.fail_at(call, 3);
+        disk.fail_at(call, 3)?;
         let (status, replies) = ran(rt.alloc(), &mut disk, SCRIPT.as_bytes(), whole(7))?;
         assert_eq!(rt; status, Status::DiskFault, "call {call}");
         assert!(rt; REPLIES.as_bytes().starts_with(&replies));
@@ -146,8 +147,8 @@ fn a_log_without_a_meaning_is_refused_at_its_place(rt: HostRuntime) -> Result<()
     ];
     for (at, byte, len, place) in changes {
         let mut bytes = log[..len].to_vec(rt.alloc())?;
-        if at < len {
-            bytes[at] = byte;
+        if let Some(changed) = bytes.get_mut(at) {
+            *changed = byte;
         }
         let mut disk = MemDisk::new(rt.alloc());
         disk.put_file(name, &bytes)?;

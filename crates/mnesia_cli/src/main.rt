@@ -6,7 +6,8 @@ ghost use Rattle.std.specs.Prelude.{◌≡◌, ◌≤◌, ◌⊎◌, ◌↔◌, 
 ghost use Rattle.mn_run.specs.Words.{HasForm};
 ghost use Rattle.mnesia_cli.specs.Words.{IsDirectory, Names};
 
-use mn_run::{HostDisk, HostIn, HostOut, Status, run};
+use file_real::{HostDisk, HostIn, HostOut};
+use mn_run::{Status, run};
 use std::process::ExitCode;
 use std::rt::{Env, Files};
 use std::{env, fs, io};

@@ -1,4 +1,4 @@
-use Rattle.file_trait.specs.MemDisk.{disk_past}
+use Rattle.file_mem.specs.MemDisk.{disk_past}
 use Rattle.disk_logs.proofs.CallerLemmas.{first_place}
 use Rattle.disk_logs.proofs.tests.first_two.Goals as goal
 

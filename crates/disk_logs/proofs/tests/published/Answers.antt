@@ -1,5 +1,5 @@
 use Rattle.std.proofs.Common.{◌∷◌, [], refl}
-use Rattle.file_trait.specs.MemDisk.{disk_past}
+use Rattle.file_mem.specs.MemDisk.{disk_past}
 use Rattle.disk_logs.proofs.CallerLemmas.{published_log}
 use Rattle.disk_logs.proofs.tests.published.Goals as goal
 

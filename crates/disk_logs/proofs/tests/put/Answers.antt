@@ -1,5 +1,5 @@
 use Rattle.std.proofs.Common.{◌++◌, refl}
-use Rattle.file_trait.specs.MemDisk.{disk_past}
+use Rattle.file_mem.specs.MemDisk.{disk_past}
 use Rattle.disk_logs.proofs.CallerLemmas.{appended_log, synced_log, log_there}
 use Rattle.disk_logs.proofs.tests.put.Goals as goal
 

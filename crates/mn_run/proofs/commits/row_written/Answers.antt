@@ -8,8 +8,8 @@ returns-in_default c = none_without _ c.in_default.ensures
 
 pub returns-then-not-depth_within : goal.returns-then-not-depth_within
 returns-then-not-depth_within c = elim c.then-not-depth_within.branch [
-  | then-not-depth_within-via-then-not-depth_within w ↦ none_by_key _ _ _ c.in-Some.ensures (λ within. let t = c.depth_within.ensures.1 within in let f = w.if-not-depth_within.true in absurd (cc))
-  | then-not-depth_within-via-else-not-depth_within+then-not-depth_within-2 w ↦ none_by_value _ _ _ c.in-Some.ensures (λ within. let t = w.depth_within-else-not-depth_within.ensures.1 within in let f = w.if-not-depth_within-2.true in absurd (cc))
+  | then-not-depth_within-via-then-not-depth_within w ↦ none_by_key _ _ _ c.in-Some.ensures (λ within. let t = c.depth_within.ensures.1 (omega (arith, within)) in let f = w.if-not-depth_within.true in absurd (cc))
+  | then-not-depth_within-via-else-not-depth_within+then-not-depth_within-2 w ↦ none_by_value _ _ _ c.in-Some.ensures (λ within. let t = w.depth_within-else-not-depth_within.ensures.1 (omega (arith, within)) in let f = w.if-not-depth_within-2.true in absurd (cc))
 ]
 
 pub returns : goal.returns

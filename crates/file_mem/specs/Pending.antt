@@ -1,0 +1,19 @@
+-- What is pending: done since the last sync.
+use Rattle.std.specs.Prelude.{ℕ, ◌+◌, if◌then◌else◌}
+use Rattle.file_trait.specs.DiskModel.{Past, handed, did, to_file, to_dir, sync, sync_dir, FileId, is_file, named}
+
+-- how many operations of a file are pending
+abbrev pub pending : Past → FileId → ℕ
+pending (handed files) i = 0
+pending (did (to_file name op) past) i = if is_file (named past name) i then pending past i + 1 else pending past i
+pending (did (sync name) past) i = if is_file (named past name) i then 0 else pending past i
+pending (did (to_dir op) past) i = pending past i
+pending (did sync_dir past) i = pending past i
+
+-- how many operations of the directory are pending
+abbrev pub dir_pending : Past → ℕ
+dir_pending (handed files) = 0
+dir_pending (did (to_dir op) past) = dir_pending past + 1
+dir_pending (did sync_dir past) = 0
+dir_pending (did (to_file name op) past) = dir_pending past
+dir_pending (did (sync name) past) = dir_pending past
