@@ -1,11 +1,13 @@
 -- How a draft is made.
-use Rattle.std.proofs.Common.{◌≡◌, ◌≢◌, inl, inr, ℕ, ◌≤◌, List, [], length, take, Option, Some, Result, Ok, Err, sym, ap, ◌∙◌, subst, arith}
+use Rattle.std.proofs.Common.{◌≡◌, ◌≢◌, inl, inr, ℕ, ◌≤◌, List, [], length, take, Option, Some, Result, Ok, Err, refl, sym, ap, ◌∙◌, subst, arith}
 use Rattle.std.proofs.Math.Seq.{take-length}
 use Rattle.file_trait.specs.declared.disk.DiskErr.{DiskErr}
 use Rattle.file_trait.specs.declared.disk.DiskErr.TheVariants.{Failed, Memory}
 use Rattle.file_trait.specs.DiskModel.{Past, did, to_file, to_dir, append, create, reads}
 use Rattle.file_trait.specs.Calls.{IsAbsent, Done, Appended}
+use Rattle.file_trait.specs.Touched.{Touches}
 use Rattle.file_trait.proofs.Files.{created, file_changed}
+use Rattle.file_trait.proofs.Touched.{then_touched, done_touches, append_touches}
 use Rattle.disk_logs.specs.declared.error.LogErr.{LogErr}
 use Rattle.disk_logs.specs.Errors.{told}
 use Rattle.disk_logs.specs.Logs.{HasPart}
@@ -67,3 +69,17 @@ pub draft_kept : (file bytes name : List ℕ) (r1 r2 : Result Unit DiskErr) (old
 draft_kept file bytes name r1 r2 old mid new same made done other apart =
     let away : other ≢ file = λ is. apart (is ∙ same) in
     appended_kept file bytes r2 mid new other away done ∙ done_kept _ r1 old mid other (kept_create old file other away) made
+
+-- ---- only the draft's name is touched
+
+pub clear_touches : (file name : List ℕ) (old new : Past) → file ≡ name → Touches (λ n. n ≡ file) old new → Touches (λ n. n ≡ name) old new
+clear_touches file name old new same h = subst (λ f. Touches (λ n. n ≡ f) old new) same h
+
+pub create_touches : (file name : List ℕ) (r : Result Unit DiskErr) (old mid new : Past) → file ≡ name → Touches (λ n. n ≡ file) old mid → Done (to_dir (create file)) r mid new → Touches (λ n. n ≡ name) old new
+create_touches file name r old mid new same h done =
+    clear_touches file name old new same (then_touched (λ n. n ≡ file) old mid new h (done_touches (λ n. n ≡ file) (to_dir (create file)) r mid new done refl))
+
+pub draft_touches : (file name bytes : List ℕ) (r1 r2 : Result Unit DiskErr) (old mid made new : Past) → file ≡ name → Touches (λ n. n ≡ file) old mid → Done (to_dir (create file)) r1 mid made
+    → Appended file bytes r2 made new → Touches (λ n. n ≡ name) old new
+draft_touches file name bytes r1 r2 old mid made new same h done put =
+    then_touched (λ n. n ≡ name) old made new (create_touches file name r1 old mid made same h done) (append_touches (λ n. n ≡ name) file bytes r2 made new put same)

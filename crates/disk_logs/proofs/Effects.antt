@@ -38,14 +38,14 @@ appended_kept name bytes (Err Memory) old new other apart is = ap (λ p. reads p
 
 pub synced_kept : (name : List ℕ) (r : Result Unit DiskErr) (old new : Past) (other : List ℕ) → Synced name r old new → reads new other ≡ reads old other
 synced_kept name (Ok x) old new other (inl is) = ap (λ p. reads p other) is
-synced_kept name (Ok x) old new other (inr (is, durable)) = ap (λ p. reads p other) is
+synced_kept name (Ok x) old new other (inr is) = ap (λ p. reads p other) is.0
 synced_kept name (Err Failed) old new other (inl is) = ap (λ p. reads p other) is
 synced_kept name (Err Failed) old new other (inr is) = ap (λ p. reads p other) is
 synced_kept name (Err Memory) old new other is = absurd is
 
 pub synced_dir_kept : (r : Result Unit DiskErr) (old new : Past) (other : List ℕ) → SyncedDir r old new → reads new other ≡ reads old other
 synced_dir_kept (Ok x) old new other (inl is) = ap (λ p. reads p other) is
-synced_dir_kept (Ok x) old new other (inr (is, durable)) = ap (λ p. reads p other) is
+synced_dir_kept (Ok x) old new other (inr is) = ap (λ p. reads p other) is.0
 synced_dir_kept (Err Failed) old new other (inl is) = ap (λ p. reads p other) is
 synced_dir_kept (Err Failed) old new other (inr is) = ap (λ p. reads p other) is
 synced_dir_kept (Err Memory) old new other is = absurd is

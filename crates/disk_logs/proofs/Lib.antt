@@ -1,7 +1,13 @@
+pub mod Acts
 pub mod Appends
 pub mod CallerLemmas
 pub mod ChunkLemmas
 pub mod ClosedLogs
 pub mod Drafts
 pub mod Effects
+pub mod Frames
+pub mod Prefixes
+pub mod Publishing
 pub mod ReadLemmas
+pub mod Repairs
+pub mod Standing

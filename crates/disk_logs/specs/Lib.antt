@@ -1,4 +1,5 @@
 pub mod Chunks
 pub mod Closed
+pub mod Crash
 pub mod Errors
 pub mod Logs

@@ -12,7 +12,7 @@ mod reading;
 pub use chunks::Chunk;
 pub use error::LogErr;
 pub use items::Items;
-pub use laws::place_law;
+pub use laws::{frame_law, place_law, repair_law, standing_law};
 pub use log::Log;
 pub use reading::chunk;
 

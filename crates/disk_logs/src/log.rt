@@ -2,11 +2,14 @@
 
 ghost use Rattle.std.specs.Prelude.{◌≡◌, ◌≢◌, ◌⊎◌, ℕ, ◌≤◌, ◌&&◌, Bool, true, false, List, [], ◌∷◌, ◌++◌, ◌+◌, ◌<◌, ◌^◌, ◌↔◌, length, take, Some, IsTrue, IfOk, IfErr, IfSome, OnOk, OnErr, IsErrOf};
 ghost use Rattle.file_trait.specs.DiskModel.{reads};
-ghost use Rattle.file_trait.specs.Calls.{IsThere, IsAbsent};
+ghost use Rattle.file_trait.specs.Calls.{IsThere, IsAbsent, IsDirDurable};
+ghost use Rattle.file_trait.specs.Moments.{Moments};
 ghost use Rattle.file_trait.specs.Name.{IsName};
+ghost use Rattle.file_trait.specs.Touched.{Touches};
+ghost use Rattle.disk_logs.specs.Crash.{Stands, LogLeaves, OldOrWhole, OldOrPublished};
 ghost use Rattle.disk_logs.specs.Errors.{OnlyFile, OnlyFileOrMemory, LogCause};
 ghost use Rattle.disk_logs.specs.Logs.{draft_name as name_of_draft, file_of, with_mark, opened, IsLog, AreItems, HasAppended, HasMarked, mark_bytes as bytes_of_mark, IsKept, IsMoved, HasPart, Finds};
-ghost use Rattle.log_items.specs.Items.{wire, log_bytes};
+ghost use Rattle.log_items.specs.Items.{wire, log_bytes, AreContents};
 
 use crate::LogErr;
 use crate::closed::bad_place;
@@ -52,8 +55,10 @@ impl Log {
         ensures made { IsTrue D.tells → OnOk result (reads (D.past disk.new) (name_of_draft name) ≡ Some (log_bytes true (head_item.now ∷ []))) }
         ensures left { IsTrue D.tells → OnErr result (HasPart (log_bytes true (head_item.now ∷ [])) (reads (D.past disk.old) (name_of_draft name)) (reads (D.past disk.new) (name_of_draft name))) }
         ensures others { IsTrue D.tells → (other : List ℕ) → other ≢ name_of_draft name → reads (D.past disk.new) other ≡ reads (D.past disk.old) other }
+        ensures touches { IsTrue D.tells → Touches (λ n. n ≡ name_of_draft name) (D.past disk.old) (D.past disk.new) }
         ensures long { IsErrOf result LogErr.TooLong ↔ (2 ^ 28 < length head_item.now) }
         ensures only { length head_item.now ≤ 2 ^ 28 → OnlyFileOrMemory result }
+        ensures time { D.moment disk.old ≤ D.moment disk.new }
         ensures cause { LogCause (D.faults disk.old) (D.faults disk.new) (D.blamed disk.new) result }
     {
         let file = draft_name(name);
@@ -81,11 +86,26 @@ impl Log {
         ensures left { IsTrue D.tells → OnErr result (IsKept (name_of_draft self.old.name) self.old.name (D.past disk.old) (D.past disk.new) ⊎ IsMoved (name_of_draft self.old.name) self.old.name (D.past disk.old) (D.past disk.new)) }
         ensures memory { IsTrue D.tells → IsErrOf result LogErr.Memory → IsKept (name_of_draft self.old.name) self.old.name (D.past disk.old) (D.past disk.new) }
         ensures others { IsTrue D.tells → (other : List ℕ) → other ≢ self.old.name → other ≢ name_of_draft self.old.name → reads (D.past disk.new) other ≡ reads (D.past disk.old) other }
+        ensures touches { IsTrue D.tells → Touches (λ n. (n ≡ self.old.name) ⊎ (n ≡ name_of_draft self.old.name)) (D.past disk.old) (D.past disk.new) }
+
+        // At Ok all items of the draft are durable under the name. At each moment a crash leaves under it what it could leave before, or
+        // the whole draft.
+        ensures stands { (items : List (List ℕ)) → IsTrue D.tells → AreContents items → reads (D.past disk.old) (name_of_draft self.old.name) ≡ Some (log_bytes self.old.closed items)
+            → OnOk result (Stands (D.past disk.new) self.new items (length items)) }
+        ensures any_moment { (whole : List ℕ) → IsTrue D.tells → reads (D.past disk.old) (name_of_draft self.old.name) ≡ Some whole
+            → Moments (OldOrWhole (D.past disk.old) self.old.name whole) (D.past disk.old) (D.past disk.new) }
+
+        // Where it leaves the whole draft, the directory has all that was done to it. At Ok it always has.
+        ensures images { (whole : List ℕ) → IsTrue D.tells → reads (D.past disk.old) (name_of_draft self.old.name) ≡ Some whole
+            → Moments (OldOrPublished (D.past disk.old) (name_of_draft self.old.name) self.old.name whole) (D.past disk.old) (D.past disk.new) }
+        ensures directory { IsTrue D.tells → OnOk result (IsDirDurable (D.past disk.new)) }
         ensures only { OnlyFileOrMemory result }
+        ensures time { D.moment disk.old ≤ D.moment disk.new }
         ensures cause { LogCause (D.faults disk.old) (D.faults disk.new) (D.blamed disk.new) result }
     {
-        self.sync(disk)?;
-        told(self.file, disk.rename(self.file, self.name))?;
+        let draft = self.file;
+        told(draft, disk.sync(draft))?;
+        told(draft, disk.rename(draft, self.name))?;
         told(self.name, disk.sync_dir())?;
         self.file = self.name;
         self.draft = false;
@@ -102,7 +122,19 @@ impl Log {
         ensures appended { (all more : List (List ℕ)) → IsTrue D.tells → items.now ≡ wire more → reads (D.past disk.old) (file_of self.old) ≡ Some (log_bytes self.old.closed all)
             → HasAppended result self.new.closed (opened self.old).closed all more (reads (D.past disk.new) (file_of self.old)) }
         ensures others { IsTrue D.tells → (other : List ℕ) → other ≢ file_of self.old → reads (D.past disk.new) other ≡ reads (D.past disk.old) other }
+        ensures touches { IsTrue D.tells → Touches (λ n. n ≡ file_of self.old) (D.past disk.old) (D.past disk.new) }
+
+        // At Ok the items stand behind the old ones, and as many as before are synced. Where memory was wanting all is as before.
+        ensures stands { (all more : List (List ℕ)) (synced : ℕ) → IsTrue D.tells → AreContents more → items.now ≡ wire more
+            → Stands (D.past disk.old) self.old all synced → OnOk result (Stands (D.past disk.new) self.new (all ++ more) synced) }
+        ensures kept { (all : List (List ℕ)) (synced : ℕ) → IsTrue D.tells → Stands (D.past disk.old) self.old all synced
+            → IsErrOf result LogErr.Memory → Stands (D.past disk.new) self.new all synced }
+
+        // At each moment a crash leaves the first ones of the old items and the new, and at least those that were synced.
+        ensures any_moment { (all more : List (List ℕ)) (synced : ℕ) → IsTrue D.tells → AreContents more → items.now ≡ wire more
+            → Stands (D.past disk.old) self.old all synced → Moments (LogLeaves self.old.name (all ++ more) synced) (D.past disk.old) (D.past disk.new) }
         ensures only { OnlyFileOrMemory result }
+        ensures time { D.moment disk.old ≤ D.moment disk.new }
         ensures cause { LogCause (D.faults disk.old) (D.faults disk.new) (D.blamed disk.new) result }
     {
         let closed = mark_to_append(self.draft, self.closed);
@@ -115,7 +147,13 @@ impl Log {
         requires { IsTrue D.tells → IsThere (D.past disk.old) (file_of self.old) }
         ensures log { self.new ≡ self.old }
         ensures same { IsTrue D.tells → (other : List ℕ) → reads (D.past disk.new) other ≡ reads (D.past disk.old) other }
+        ensures touches { IsTrue D.tells → Touches (λ n. n ≡ file_of self.old) (D.past disk.old) (D.past disk.new) }
+        ensures stands { (items : List (List ℕ)) (synced : ℕ) → IsTrue D.tells → Stands (D.past disk.old) self.old items synced
+            → OnOk result (Stands (D.past disk.new) self.new items (length items)) }
+        ensures any_moment { (items : List (List ℕ)) (synced : ℕ) → IsTrue D.tells → Stands (D.past disk.old) self.old items synced
+            → Moments (LogLeaves self.old.name items synced) (D.past disk.old) (D.past disk.new) }
         ensures only { OnlyFile result }
+        ensures time { D.moment disk.old ≤ D.moment disk.new }
         ensures cause { LogCause (D.faults disk.old) (D.faults disk.new) (D.blamed disk.new) result }
     {
         told(self.file, disk.sync(self.file))
@@ -129,7 +167,15 @@ impl Log {
         ensures closed { (all : List (List ℕ)) → IsTrue D.tells → reads (D.past disk.old) (file_of self.old) ≡ Some (log_bytes self.old.closed all)
             → HasMarked result self.old.closed true all (reads (D.past disk.new) (file_of self.old)) }
         ensures others { IsTrue D.tells → (other : List ℕ) → other ≢ file_of self.old → reads (D.past disk.new) other ≡ reads (D.past disk.old) other }
+        ensures touches { IsTrue D.tells → Touches (λ n. n ≡ file_of self.old) (D.past disk.old) (D.past disk.new) }
+        ensures stands { (items : List (List ℕ)) (synced : ℕ) → IsTrue D.tells → Stands (D.past disk.old) self.old items synced
+            → OnOk result (Stands (D.past disk.new) self.new items (length items)) }
+        ensures kept { (items : List (List ℕ)) (synced : ℕ) → IsTrue D.tells → Stands (D.past disk.old) self.old items synced
+            → IsErrOf result LogErr.Memory → Stands (D.past disk.new) self.new items synced }
+        ensures any_moment { (items : List (List ℕ)) (synced : ℕ) → IsTrue D.tells → Stands (D.past disk.old) self.old items synced
+            → Moments (LogLeaves self.old.name items synced) (D.past disk.old) (D.past disk.new) }
         ensures only { OnlyFileOrMemory result }
+        ensures time { D.moment disk.old ≤ D.moment disk.new }
         ensures cause { LogCause (D.faults disk.old) (D.faults disk.new) (D.blamed disk.new) result }
     {
         self.set_mark(disk, true)?;
@@ -148,6 +194,7 @@ impl Log {
         ensures bad { (other : List ℕ) (at : ℕ) → IsErrOf result (LogErr.Bad other at) → other ≡ name }
         ensures never { IsErrOf result LogErr.TooLong → ⊥ }
         ensures same { IsTrue D.tells → D.past disk.new ≡ D.past disk.old }
+        ensures time { D.moment disk.new ≡ D.moment disk.old }
         ensures cause { LogCause (D.faults disk.old) (D.faults disk.new) (D.blamed disk.new) result }
     {
         let Some(bytes) = read_file(alloc, disk, name)? else {
@@ -172,7 +219,15 @@ impl Log {
         ensures marked { (all : List (List ℕ)) → IsTrue D.tells → reads (D.past disk.old) (file_of self.old) ≡ Some (log_bytes self.old.closed all)
             → HasMarked result self.old.closed closed all (reads (D.past disk.new) (file_of self.old)) }
         ensures others { IsTrue D.tells → (other : List ℕ) → other ≢ file_of self.old → reads (D.past disk.new) other ≡ reads (D.past disk.old) other }
+        ensures touches { IsTrue D.tells → Touches (λ n. n ≡ file_of self.old) (D.past disk.old) (D.past disk.new) }
+        ensures stands { (items : List (List ℕ)) (synced : ℕ) → IsTrue D.tells → Stands (D.past disk.old) self.old items synced
+            → OnOk result (Stands (D.past disk.new) self.new items synced) }
+        ensures kept { (items : List (List ℕ)) (synced : ℕ) → IsTrue D.tells → Stands (D.past disk.old) self.old items synced
+            → IsErrOf result LogErr.Memory → Stands (D.past disk.new) self.new items synced }
+        ensures any_moment { (items : List (List ℕ)) (synced : ℕ) → IsTrue D.tells → Stands (D.past disk.old) self.old items synced
+            → Moments (LogLeaves self.old.name items synced) (D.past disk.old) (D.past disk.new) }
         ensures only { OnlyFileOrMemory result }
+        ensures time { D.moment disk.old ≤ D.moment disk.new }
         ensures cause { LogCause (D.faults disk.old) (D.faults disk.new) (D.blamed disk.new) result }
     {
         if self.closed == closed {
@@ -251,7 +306,9 @@ fn clear<D: Disk>(disk: &mut D, name: FileName) -> Result<(), LogErr>
     ensures gone { IsTrue D.tells → OnOk result (IsAbsent (D.past disk.new) name) }
     ensures left { IsTrue D.tells → OnErr result ((reads (D.past disk.new) name ≡ reads (D.past disk.old) name) ⊎ IsAbsent (D.past disk.new) name) }
     ensures others { IsTrue D.tells → (other : List ℕ) → other ≢ name → reads (D.past disk.new) other ≡ reads (D.past disk.old) other }
+    ensures touches { IsTrue D.tells → Touches (λ n. n ≡ name) (D.past disk.old) (D.past disk.new) }
     ensures only { OnlyFileOrMemory result }
+    ensures time { D.moment disk.old ≤ D.moment disk.new }
     ensures cause { LogCause (D.faults disk.old) (D.faults disk.new) (D.blamed disk.new) result }
 {
     match told(name, disk.len(name))? {

@@ -35,6 +35,7 @@ pub(crate) fn read_piece<D: Disk>(
     ensures end { (file : List ℕ) → IsTrue D.tells → reads (D.past disk.old) name ≡ Some file → StartsWith bytes.old.items (drop from file) → IfOk result (λ more. more ≡ false → bytes.new.items ≡ drop from file) }
     ensures same { IsTrue D.tells → D.past disk.new ≡ D.past disk.old }
     ensures only { OnlyFileOrMemory result }
+    ensures time { D.moment disk.new ≡ D.moment disk.old }
     ensures cause { LogCause (D.faults disk.old) (D.faults disk.new) (D.blamed disk.new) result }
 {
     let at = from + bytes.len() as u64;
@@ -57,6 +58,7 @@ pub(crate) fn read_file<D: Disk>(
     ensures bytes { IsTrue D.tells → IfOk result (λ file. option_map (λ bytes. bytes.items) file ≡ reads (D.past disk.old) name) }
     ensures same { IsTrue D.tells → D.past disk.new ≡ D.past disk.old }
     ensures only { OnlyFileOrMemory result }
+    ensures time { D.moment disk.new ≡ D.moment disk.old }
     ensures cause { LogCause (D.faults disk.old) (D.faults disk.new) (D.blamed disk.new) result }
 {
     let Some(len) = told(name, disk.len(name))? else {
@@ -86,6 +88,7 @@ pub fn chunk<D: Disk>(
     ensures bad { (other : List ℕ) (at : ℕ) → IsErrOf result (LogErr.Bad other at) → other ≡ name }
     ensures never { IsErrOf result LogErr.TooLong → ⊥ }
     ensures same { IsTrue D.tells → D.past disk.new ≡ D.past disk.old }
+    ensures time { D.moment disk.new ≡ D.moment disk.old }
     ensures cause { LogCause (D.faults disk.old) (D.faults disk.new) (D.blamed disk.new) result }
 {
     let Some(len) = told(name, disk.len(name))? else {

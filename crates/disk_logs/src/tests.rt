@@ -1,7 +1,9 @@
-ghost use Rattle.std.specs.Prelude.{◌≤◌, length, IfOk, OnOk};
+ghost use Rattle.std.specs.Prelude.{◌≡◌, ◌≤◌, ◌++◌, ◌∷◌, [], ℕ, List, length, IfOk, OnOk};
 ghost use Rattle.file_mem.specs.MemDisk.{disk_past};
+ghost use Rattle.file_trait.specs.Moments.{Moments};
 ghost use Rattle.file_trait.specs.Name.{IsName};
-ghost use Rattle.log_items.specs.Items.{IsContent};
+ghost use Rattle.log_items.specs.Items.{wire, IsContent, AreContents};
+ghost use Rattle.disk_logs.specs.Crash.{Stands, LogLeaves};
 ghost use Rattle.disk_logs.specs.Logs.{AreItems, IsLog};
 
 use crate::{Chunk, Log, LogErr, chunk};
@@ -16,7 +18,8 @@ const HEAD: [u8; 9] = [131, 104, 1, 119, 4, 108, 111, 103, 49];
 fn published(alloc: Global, disk: &mut MemDisk, name: FileName) -> Result<Log, LogErr>
     requires short { length name ≤ 77 }
     requires valid { IsName name }
-    ensures { IfOk result (IsLog (disk_past disk.new)) }
+    ensures log { IfOk result (IsLog (disk_past disk.new)) }
+    ensures stands { IfOk result (λ log. Stands (disk_past disk.new) log (HEAD ∷ []) 1) }
 {
     let mut log = Log::draft(alloc, disk, name, &HEAD)?;
     log.publish(disk)?;
@@ -35,7 +38,11 @@ fn item(alloc: Global, content: &[u8]) -> Result<Vec<u8>, ItemErr>
 fn put(disk: &mut MemDisk, log: &mut Log, item: &[u8]) -> Result<(), LogErr>
     requires log { IsLog (disk_past disk.old) log.old }
     requires items { AreItems item.now }
-    ensures { OnOk result (IsLog (disk_past disk.new) log.new) }
+    ensures log { OnOk result (IsLog (disk_past disk.new) log.new) }
+    ensures stands { (all more : List (List ℕ)) (synced : ℕ) → AreContents more → item.now ≡ wire more → Stands (disk_past disk.old) log.old all synced
+        → OnOk result (Stands (disk_past disk.new) log.new (all ++ more) (length (all ++ more))) }
+    ensures any_moment { (all more : List (List ℕ)) (synced : ℕ) → AreContents more → item.now ≡ wire more → Stands (disk_past disk.old) log.old all synced
+        → Moments (LogLeaves log.old.name (all ++ more) synced) (disk_past disk.old) (disk_past disk.new) }
 {
     log.append(disk, item)?;
     log.sync(disk)

@@ -2,7 +2,7 @@
 use Rattle.std.proofs.Common.{◌≡◌, ◌⊎◌, inl, inr, ℕ, ◌+◌, ◌≤◌, min, Bool, true, false, if◌then◌else◌, List, [], ◌++◌, length, take, nat_lt, nat_eq, Option, None, Some, option_map, unwrap_or, refl, sym, ap, ◌∙◌, subst, take_all, arith}
 use Rattle.std.proofs.lemmas.Bool.{lt-ltb, ltb-true, eqb-true}
 use Rattle.std.proofs.lemmas.List.{take_min}
-use Rattle.file_trait.specs.DiskModel.{Past, handed, did, FileOp, append, mark, cut, to_file, to_dir, sync, sync_dir, FileId, is_file, named, changed, content, PartDone, FileLeaves, DirLeaves, IsImage}
+use Rattle.file_trait.specs.DiskModel.{Past, handed, did, FileOp, append, mark, cut, to_file, to_dir, sync, sync_dir, FileId, clock, is_file, named, changed, content, reads, PartDone, FileLeaves, DirLeaves, IsImage}
 use Rattle.file_trait.proofs.Names.{is_file_true, is_file_some}
 use Rattle.file_mem.specs.Pending.{pending, dir_pending}
 use Rattle.file_mem.specs.Chosen.{begun, file_left, dir_left, called}
@@ -119,3 +119,43 @@ chosen_image past choice image h = record {
     named_so name (Some i) is =
         ap (λ n. Some (left_of past choice n i))
         (sym (ap (λ o. unwrap_or o []) (called_named (dir_left past choice.dir) name i is)))
+
+-- ---- all of it is taken
+
+file_few : (past : Past) (i : FileId) → pending past i ≤ clock past
+file_few (handed files) i = omega arith
+file_few (did (to_dir op) past) i = omega (arith, file_few past i)
+file_few (did sync_dir past) i = omega (arith, file_few past i)
+file_few (did (sync name) past) i = go (file_few past i) (is_file (named past name) i)
+  where
+    go : pending past i ≤ clock past → (b : Bool) → (if b then 0 else pending past i) ≤ clock past + 1
+    go few true = omega arith
+    go few false = omega (arith, few)
+file_few (did (to_file name op) past) i = go (file_few past i) (is_file (named past name) i)
+  where
+    go : pending past i ≤ clock past → (b : Bool) → (if b then pending past i + 1 else pending past i) ≤ clock past + 1
+    go few true = omega (arith, few)
+    go few false = omega (arith, few)
+
+dir_few : (past : Past) → dir_pending past ≤ clock past
+dir_few (handed files) = omega arith
+dir_few (did (to_dir op) past) = omega (arith, dir_few past)
+dir_few (did sync_dir past) = omega arith
+dir_few (did (to_file name op) past) = omega (arith, dir_few past)
+dir_few (did (sync name) past) = omega (arith, dir_few past)
+
+dir_in_step : (past : Past) (count : ℕ) (name : List ℕ) → dir_pending past ≤ count → named (dir_left past count) name ≡ named past name
+dir_in_step (handed files) count name le = refl
+dir_in_step (did sync_dir past) count name le = refl
+dir_in_step (did (to_file other op) past) count name le = dir_in_step past count name le
+dir_in_step (did (sync other) past) count name le = dir_in_step past count name le
+dir_in_step (did (to_dir op) past) count name le =
+    ap (λ b. named (if b then did (to_dir op) past else dir_left past count) name) (lt-ltb (dir_pending past) count (omega (arith, le)))
+
+pub all_chosen : (past : Past) (choice : Choice) (name : List ℕ) → clock past ≤ choice.dir → clock past ≤ (taken_of choice name).ops → chosen past choice name ≡ reads past name
+all_chosen past choice name dir ops =
+    ap (option_map (left_of past choice name)) (dir_in_step past choice.dir name (omega (arith, dir_few past, dir))) ∙ go (named past name)
+  where
+    go : (o : Option FileId) → option_map (left_of past choice name) o ≡ option_map (content past) o
+    go None = refl
+    go (Some i) = ap (λ b. Some b) (in_step past i (taken_of choice name).ops (taken_of choice name).bytes (omega (arith, file_few past i, ops)))

@@ -1,6 +1,6 @@
 -- The files of a disk in memory stay those that it reads.
-use Rattle.std.proofs.Common.{◌≡◌, ◌⊎◌, inl, inr, ℕ, ◌+◌, ◌≤◌, min, Bool, true, false, if◌then◌else◌, List, [], ◌∷◌, ◌++◌, length, take, nat_eq, nat_lt, Some, option_map, Result, Ok, Err, refl, sym, ap, ◌∙◌, arith}
-use Rattle.std.proofs.lemmas.Bool.{cases_Bool, ltb-false, eqb-true}
+use Rattle.std.proofs.Common.{◌≡◌, ◌⊎◌, inl, inr, ℕ, ◌+◌, ◌≤◌, min, Bool, true, false, if◌then◌else◌, List, [], ◌∷◌, ◌++◌, length, take, nat_eq, nat_lt, Option, None, Some, option_map, Result, Ok, Err, refl, sym, ap, ◌∙◌, arith}
+use Rattle.std.proofs.lemmas.Bool.{cases_Bool, ltb-true, ltb-false, eqb-true}
 use Rattle.std.proofs.lemmas.List.{nil_from_length, take_min}
 use Rattle.std.proofs.lemmas.List.Sums.{count_by-le-length}
 use Rattle.file_trait.specs.DiskModel.{Past, handed, did, FileOp, DirOp, to_file, to_dir, append, sync, FileId, clock, same_name, named, reads}
@@ -8,7 +8,7 @@ use Rattle.file_trait.specs.Calls.{IsDurable, IsDirDurable}
 use Rattle.file_trait.proofs.Names.{same_name_true}
 use Rattle.file_trait.proofs.Files.{reads_handed}
 use Rattle.file_mem.specs.Operations.{op_of, past_after}
-use Rattle.file_mem.specs.Pending.{pending, dir_pending}
+use Rattle.file_mem.specs.Pending.{pending, dir_pending, IsSynced, IsDirSynced}
 use Rattle.file_mem.specs.Files.{Stored, stored, stored_as, found, is_unsynced, one_if, unsynced_count, written, synced, new_file, handed_file, placed, past_from, file_in, stored_in, AreStored}
 use Rattle.file_mem.specs.Directory.{past_of, DidOrNot, front_put, FrontPut}
 use Rattle.std.specs.declared.alloc.AllocError.{AllocError}
@@ -72,9 +72,23 @@ module _ (past : Past) (files : List File) (h : (name : List ℕ) → stored fil
       is_none : (i : FileId) → named past name ≡ Some i → nat_lt 0 (pending past i) ≡ false
       is_none i is = sym (ap is_unsynced (h name ∙ ap (option_map (file_in past)) is)) ∙ none
 
+  -- something of the file is pending
+  pub not_synced : {A : Type 0} (name : List ℕ) → is_unsynced (stored files name) ≡ true → IsSynced past name → A
+  not_synced name some none = go (named past name) refl
+    where
+      go : {A : Type 0} (o : Option FileId) → named past name ≡ o → A
+      go None is = cc (some, ap is_unsynced (h name ∙ ap (option_map (file_in past)) is))
+      go (Some i) is =
+          let there : nat_lt 0 (pending past i) ≡ true = sym (ap is_unsynced (h name ∙ ap (option_map (file_in past)) is)) ∙ some in
+          absurd (omega (arith, none i is, ltb-true 0 (pending past i) there))
+
 -- nothing of the directory is pending
 pub is_dir_durable : (past : Past) (unsynced : Bool) → unsynced ≡ nat_lt 0 (dir_pending past) → unsynced ≡ false → IsDirDurable past
 is_dir_durable past unsynced is none names = dir_durable past names (omega (arith, ltb-false 0 (dir_pending past) (sym is ∙ none)))
+
+-- something of the directory is pending
+pub not_dir_synced : {A : Type 0} (past : Past) (unsynced : Bool) → unsynced ≡ nat_lt 0 (dir_pending past) → unsynced ≡ true → IsDirSynced past → A
+not_dir_synced past unsynced is some none = absurd (omega (arith, none, ltb-true 0 (dir_pending past) (sym is ∙ some)))
 
 -- ---- a front of bytes
 

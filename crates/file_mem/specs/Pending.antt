@@ -1,5 +1,5 @@
 -- What is pending: done since the last sync.
-use Rattle.std.specs.Prelude.{ℕ, ◌+◌, if◌then◌else◌}
+use Rattle.std.specs.Prelude.{◌≡◌, ℕ, ◌+◌, if◌then◌else◌, List, Some}
 use Rattle.file_trait.specs.DiskModel.{Past, handed, did, to_file, to_dir, sync, sync_dir, FileId, is_file, named}
 
 -- how many operations of a file are pending
@@ -17,3 +17,11 @@ dir_pending (did (to_dir op) past) = dir_pending past + 1
 dir_pending (did sync_dir past) = 0
 dir_pending (did (to_file name op) past) = dir_pending past
 dir_pending (did (sync name) past) = dir_pending past
+
+-- nothing of the file that has this name is pending
+abbrev pub IsSynced : Past → List ℕ → Type 0
+IsSynced past name = (i : FileId) → named past name ≡ Some i → pending past i ≡ 0
+
+-- nothing of the directory is pending
+abbrev pub IsDirSynced : Past → Type 0
+IsDirSynced past = dir_pending past ≡ 0

@@ -12,6 +12,7 @@ pieces-init g c = record {
   taken = omega arith;
   same = c.len.ensures.same;
   part = λ file told here. (drop c.args.from file, ap (λ z. z ++ drop c.args.from file) (sym c.new-bytes.ensures.items));
+  time = c.len.ensures.time;
   later = c.len.ensures.cause.later;
   whole = ap (λ z. wire z ++ c.new-bytes.result.items) c.new-found.ensures.none;
   next = c.new-found.ensures.counted.next ∙ ap (λ z. c.args.from + length (wire z)) c.new-found.ensures.none;
@@ -44,6 +45,7 @@ pieces-preserved g c =
       taken = omega (arith, c.in_ok-taken.ensures.within, ap length c.deref.ensures.value, c.read_piece.new.bytes.ok.0);
       same = λ told. c.read_piece.ensures.same told ∙ so_far.same told;
       part = λ file told here. c.read_piece.ensures.part file told (ap (λ p. reads p c.args.name) (so_far.same told) ∙ here) (so_far.part file told here);
+      time = c.read_piece.ensures.time ∙ so_far.time;
       later = omega (arith, so_far.later, c.read_piece.ensures.cause.later);
       whole = piece_taken c.pieces.bytes.items c.read_piece.new.bytes.items c.deref.result.now c.pieces.found.items c.take.new.self.items c.pieces.taken c.in_ok-taken.taken
           (omega (arith, so_far.taken, c.pieces.bytes.ok.0)) c.read_piece.ensures.grows c.deref.ensures.value so_far.whole c.in_ok-taken.ensures.same;

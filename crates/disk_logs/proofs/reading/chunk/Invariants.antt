@@ -11,6 +11,7 @@ invariant-pieces g l = record {
   taken : l.taken ≤ vec_len l.bytes;
   same : IsTrue g.D.Disk.tells → g.D.Disk.past l.disk ≡ g.D.Disk.past l.fn.disk;
   part : (file : List ℕ) → IsTrue g.D.Disk.tells → reads (g.D.Disk.past l.fn.disk) l.name ≡ Some file → StartsWith l.bytes.items (drop l.from file);
+  time : g.D.Disk.moment l.disk ≡ g.D.Disk.moment l.fn.disk;
   later : g.D.Disk.faults l.fn.disk ≤ g.D.Disk.faults l.disk;
   whole : wire l.found.items ++ drop l.taken l.bytes.items ≡ l.bytes.items;
   next : l.found.next ≡ l.from + l.taken;

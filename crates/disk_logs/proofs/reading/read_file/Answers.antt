@@ -6,5 +6,6 @@ pieces-init g c = record {
   within = omega (arith, c.new-bytes.ensures.len);
   same = c.len.ensures.same;
   part = λ file told here. (file, ap (λ z. z ++ file) (sym c.new-bytes.ensures.items));
+  time = c.len.ensures.time;
   later = c.len.ensures.cause.later;
 }

@@ -8,6 +8,7 @@ invariant-pieces g l = record {
   within : vec_len l.bytes ≤ l.len;
   same : IsTrue g.D.Disk.tells → g.D.Disk.past l.disk ≡ g.D.Disk.past l.fn.disk;
   part : (file : List ℕ) → IsTrue g.D.Disk.tells → reads (g.D.Disk.past l.fn.disk) l.name ≡ Some file → StartsWith l.bytes.items file;
+  time : g.D.Disk.moment l.disk ≡ g.D.Disk.moment l.fn.disk;
   later : g.D.Disk.faults l.fn.disk ≤ g.D.Disk.faults l.disk;
 }
 

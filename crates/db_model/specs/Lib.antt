@@ -1,0 +1,5 @@
+pub mod Commits
+pub mod Definitions
+pub mod Names
+pub mod Ops
+pub mod View
