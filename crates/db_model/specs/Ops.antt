@@ -27,11 +27,15 @@ op_tree (delete table key) = op_shape (codes "delete") table (tree key no_trees)
 op_tree (delete_object table row) = op_shape (codes "delete_object") table (tree row no_trees)
 op_tree (clear table) = op_shape (codes "clear") table no_trees
 
+-- the term of no op, whatever the table is called
+abbrev pub HasNoOp : Tree → Type 0
+HasNoOp term = (op : Operation) → term ≡ op_tree op → ⊥
+
 -- the term is that of this op, which names what a table can be called
 pub record IsOp (term : Tree) (op : Operation) : Type 0 where
   pub named : IsTableName (table_of op)
   pub is : term ≡ op_tree op
 
--- the term is that of no op
+-- the term is that of no such op
 abbrev pub IsNoOp : Tree → Type 0
 IsNoOp term = (op : Operation) → IsOp term op → ⊥

@@ -30,7 +30,7 @@ pub struct TableDef {
     pub attributes: Rows,
     /// The positions of the attributes that are indexed.
     pub index: Positions,
-    /// The version of the commit that made the table.
+    /// The version of the commit that made or remade the table.
     pub cookie: u64,
 }
 

@@ -4,7 +4,7 @@ ghost use Rattle.std.specs.Prelude.{◌≡◌, List, ℕ, IfOk, MatchOption};
 ghost use Rattle.term_core.specs.Tree as trees;
 ghost use Rattle.term_core.specs.Tree.{Trees, tree, no_trees};
 ghost use Rattle.term_core.specs.View.{tree_of, forest_of};
-ghost use Rattle.db_model.specs.Ops.{Operation, op_shape, op_tree, IsOp, IsNoOp};
+ghost use Rattle.db_model.specs.Ops.{op_shape, op_tree, HasNoOp, IsOp, IsNoOp};
 ghost use Rattle.db_model.specs.View.{operation};
 
 use crate::copies::{copied_atom, copied_term};
@@ -97,7 +97,7 @@ fn op_of_parts(
     table: &Atom,
     rest: &[Term],
 ) -> Result<Option<Op>, AllocError>
-    ensures { IfOk result (λ found. MatchOption found ((op : Operation) → op_shape word.now table.now (forest_of rest.now) ≡ op_tree op → ⊥) (λ op. op_shape word.now table.now (forest_of rest.now) ≡ op_tree (operation op))) }
+    ensures { IfOk result (λ found. MatchOption found (HasNoOp (op_shape word.now table.now (forest_of rest.now))) (λ op. op_shape word.now table.now (forest_of rest.now) ≡ op_tree (operation op))) }
 {
     match rest {
         [] => op_without_item(alloc, word, table),
@@ -108,7 +108,7 @@ fn op_of_parts(
 
 /// The op with the term `{Word,Table}`.
 fn op_without_item(alloc: Global, word: &Atom, table: &Atom) -> Result<Option<Op>, AllocError>
-    ensures { IfOk result (λ found. MatchOption found ((op : Operation) → op_shape word.now table.now no_trees ≡ op_tree op → ⊥) (λ op. op_shape word.now table.now no_trees ≡ op_tree (operation op))) }
+    ensures { IfOk result (λ found. MatchOption found (HasNoOp (op_shape word.now table.now no_trees)) (λ op. op_shape word.now table.now no_trees ≡ op_tree (operation op))) }
 {
     match word.text() {
         "clear" => Ok(Some(Op::Clear(copied_atom(alloc, table)?))),
@@ -123,7 +123,7 @@ fn op_with_item(
     table: &Atom,
     item: &Term,
 ) -> Result<Option<Op>, AllocError>
-    ensures { IfOk result (λ found. MatchOption found ((op : Operation) → op_shape word.now table.now (tree (tree_of item.now) no_trees) ≡ op_tree op → ⊥) (λ op. op_shape word.now table.now (tree (tree_of item.now) no_trees) ≡ op_tree (operation op))) }
+    ensures { IfOk result (λ found. MatchOption found (HasNoOp (op_shape word.now table.now (tree (tree_of item.now) no_trees))) (λ op. op_shape word.now table.now (tree (tree_of item.now) no_trees) ≡ op_tree (operation op))) }
 {
     let table = copied_atom(alloc, table)?;
     let item = copied_term(alloc, item)?;
