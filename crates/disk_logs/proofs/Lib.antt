@@ -1,8 +1,8 @@
 pub mod Acts
 pub mod Appends
 pub mod CallerLemmas
+pub mod Checked
 pub mod ChunkLemmas
-pub mod ClosedLogs
 pub mod Drafts
 pub mod Effects
 pub mod Frames

@@ -32,3 +32,7 @@ OldOrWhole old name whole = Crashes (λ image. ((earlier : List ℕ → Option (
 -- draft has that name.
 abbrev pub OldOrPublished : Past → List ℕ → List ℕ → List ℕ → Past → Type 0
 OldOrPublished old draft name whole = Crashes (λ image. IsImage old image ⊎ ((image name ≡ Some whole) × IsImage (did sync_dir (did (to_dir (rename draft name)) old)) image))
+
+-- whatever a crash leaves now, the name reads as a crash could leave it at first, or as bytes with exactly these items
+abbrev pub OldOrItems : Past → List ℕ → List (List ℕ) → Past → Type 0
+OldOrItems old name items = Crashes (λ image. ((earlier : List ℕ → Option (List ℕ)) × IsImage old earlier × (image name ≡ earlier name)) ⊎ ReadsAs name (λ bytes. HasItems bytes items) image)

@@ -3,8 +3,8 @@ use Rattle.std.specs.Prelude.{◌≡◌, ◌⊎◌, ℕ, ◌<◌, ◌≤◌, Boo
 use Rattle.file_trait.specs.DiskModel.{Past, reads}
 use Rattle.disk_logs.specs.declared.error.LogErr.{LogErr}
 use Rattle.disk_logs.specs.declared.error.LogErr.TheVariants.{File, Bad, TooLong, Memory}
-use Rattle.disk_logs.specs.Closed.{IsClosedLog, IsBadAt}
-use Rattle.log_items.specs.Items.{wire, log_bytes, AreContents}
+use Rattle.log_items.specs.Items.{wire, log_bytes, AreContents, HasItems}
+use Rattle.log_items.specs.Scan.{IsBadAt}
 
 -- a log: the name that it has or will have, whether its file is a draft, and whether its mark says closed
 pub record Handle : Type 0 where
@@ -73,11 +73,20 @@ IsMoved from to old new = (reads new to ≡ reads old from) × (reads new from �
 abbrev pub HasPart : List ℕ → Option (List ℕ) → Option (List ℕ) → Type 0
 HasPart whole old new = (new ≡ old) ⊎ (new ≡ None) ⊎ ((k : ℕ) × (k ≤ length whole) × (new ≡ Some (take k whole)))
 
--- what is found under a name: nothing where there is no file, a log where it is a closed one, and else the bad place
+-- what is found under a name: nothing where there is no file, a log where it is a file of items, and else the bad place
 abbrev pub Finds : {T : Type 0} → Result (Option T) LogErr → Option (List ℕ) → Type 0
 Finds (Ok None) file = file ≡ None
-Finds (Ok (Some log)) file = (bytes : List ℕ) × (file ≡ Some bytes) × IsClosedLog bytes
+Finds (Ok (Some log)) file = (bytes : List ℕ) × (items : List (List ℕ)) × (file ≡ Some bytes) × HasItems bytes items
 Finds (Err (Bad name at)) file = (bytes : List ℕ) × (file ≡ Some bytes) × IsBadAt bytes at
 Finds (Err TooLong) file = ⊥
 Finds (Err (File name)) file = Unit {0}
 Finds (Err Memory) file = Unit {0}
+
+-- whether there is a log under a name: where there is a file it is one of items, or has a bad place
+abbrev pub HasLog : Result Bool LogErr → Option (List ℕ) → Type 0
+HasLog (Ok false) file = file ≡ None
+HasLog (Ok true) file = (bytes : List ℕ) × (items : List (List ℕ)) × (file ≡ Some bytes) × HasItems bytes items
+HasLog (Err (Bad name at)) file = (bytes : List ℕ) × (file ≡ Some bytes) × IsBadAt bytes at
+HasLog (Err TooLong) file = ⊥
+HasLog (Err (File name)) file = Unit {0}
+HasLog (Err Memory) file = Unit {0}

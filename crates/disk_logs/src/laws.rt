@@ -7,16 +7,7 @@ ghost use Rattle.file_trait.specs.Moments.{Moments};
 ghost use Rattle.file_trait.specs.Shown.{Shows};
 ghost use Rattle.file_trait.specs.Touched.{Touches};
 ghost use Rattle.log_items.specs.Items.{log_bytes, AreContents, IsFile, HasItems};
-ghost use Rattle.disk_logs.specs.Closed.{IsClosedLog, IsBadAt};
 ghost use Rattle.disk_logs.specs.Crash.{LogStands, LogLeaves};
-
-/// Bytes are either a closed log or have one bad place.
-#[tactic(none)]
-pub fn place_law()
-    ensures either { (bytes : List ℕ) → IsClosedLog bytes ⊎ ((at : ℕ) × IsBadAt bytes at) }
-    ensures never_both { (bytes : List ℕ) (at : ℕ) → IsClosedLog bytes → IsBadAt bytes at → ⊥ }
-    ensures one { (bytes : List ℕ) (at other : ℕ) → IsBadAt bytes at → IsBadAt bytes other → at ≡ other }
-{}
 
 /// When a log stands, and what a crash leaves of it then.
 #[tactic(none)]

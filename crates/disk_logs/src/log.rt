@@ -1,20 +1,20 @@
 //! A log over a disk.
 
-ghost use Rattle.std.specs.Prelude.{◌≡◌, ◌≢◌, ◌⊎◌, ℕ, ◌≤◌, ◌&&◌, Bool, true, false, List, [], ◌∷◌, ◌++◌, ◌+◌, ◌<◌, ◌^◌, ◌↔◌, length, take, Some, IsTrue, IfOk, IfErr, IfSome, OnOk, OnErr, IsErrOf};
-ghost use Rattle.file_trait.specs.DiskModel.{reads};
-ghost use Rattle.file_trait.specs.Calls.{IsThere, IsAbsent, IsDirDurable};
+ghost use Rattle.std.specs.Prelude.{◌≡◌, ◌≢◌, ◌⊎◌, ℕ, ◌≤◌, ◌&&◌, Bool, true, false, List, [], ◌∷◌, ◌++◌, ◌+◌, ◌<◌, ◌^◌, ◌↔◌, length, take, Some, IsTrue, IfOk, IfErr, IfSome, IfNone, OnOk, OnErr, IsErrOf};
+ghost use Rattle.file_trait.specs.DiskModel.{reads, IsSettled};
+ghost use Rattle.file_trait.specs.Calls.{IsThere, IsAbsent, Has, IsDirDurable};
 ghost use Rattle.file_trait.specs.Moments.{Moments};
 ghost use Rattle.file_trait.specs.Name.{IsName};
 ghost use Rattle.file_trait.specs.Touched.{Touches};
-ghost use Rattle.disk_logs.specs.Crash.{Stands, LogLeaves, OldOrWhole, OldOrPublished};
+ghost use Rattle.disk_logs.specs.Crash.{Stands, LogLeaves, OldOrWhole, OldOrPublished, OldOrItems};
 ghost use Rattle.disk_logs.specs.Errors.{OnlyFile, OnlyFileOrMemory, LogCause};
 ghost use Rattle.disk_logs.specs.Logs.{draft_name as name_of_draft, file_of, with_mark, opened, IsLog, AreItems, HasAppended, HasMarked, mark_bytes as bytes_of_mark, IsKept, IsMoved, HasPart, Finds};
-ghost use Rattle.log_items.specs.Items.{wire, log_bytes, AreContents};
+ghost use Rattle.log_items.specs.Items.{wire, log_bytes, AreContents, HasItems};
 
 use crate::LogErr;
-use crate::closed::bad_place;
 use crate::error::{told, wrote};
 use crate::reading::read_file;
+use crate::repairing::{repair, scanned};
 use file_trait::{Disk, FileName};
 use log_items::{put_head, put_item};
 use std::alloc::Global;
@@ -182,33 +182,50 @@ impl Log {
         self.sync(disk)
     }
 
-    /// The log of this name, none where there is no file. One that is not closed is refused as `Bad` at its mark, and
-    /// anything else that is no log at its first wrong place. The disk stays as it is.
+    /// The log of this name, none where there is no file. Bytes that are no file of items are refused as `Bad` at their first
+    /// wrong place, and then nothing is done to the disk. Else the file is made durable, an incomplete last item is cut off,
+    /// and the file is marked open.
     pub fn resume<D: Disk>(
         alloc: Global,
         disk: &mut D,
         name: FileName,
     ) -> Result<Option<Log>, LogErr>
         ensures found { IsTrue D.tells → Finds result (reads (D.past disk.old) name) }
-        ensures log { IfOk result (λ found. IfSome found (λ log. log ≡ record { name = name; draft = false; closed = true })) }
+        ensures log { IfOk result (λ found. IfSome found (λ log. log ≡ record { name = name; draft = false; closed = false })) }
+
+        // An error after the sync leaves the items too: cut off is only what is no whole item.
+        ensures open { (bytes : List ℕ) (items : List (List ℕ)) → IsTrue D.tells → reads (D.past disk.old) name ≡ Some bytes → HasItems bytes items
+            → OnOk result (reads (D.past disk.new) name ≡ Some (log_bytes false items)) }
+        ensures kept { (bytes : List ℕ) (items : List (List ℕ)) → IsTrue D.tells → reads (D.past disk.old) name ≡ Some bytes → HasItems bytes items
+            → OnErr result (Has (D.past disk.new) name (λ left. HasItems left items)) }
+        ensures refused { IsTrue D.tells → (other : List ℕ) (at : ℕ) → IsErrOf result (LogErr.Bad other at) → D.past disk.new ≡ D.past disk.old }
+        ensures absent { IsTrue D.tells → IfOk result (λ found. IfNone found (D.past disk.new ≡ D.past disk.old)) }
+        ensures others { IsTrue D.tells → (other : List ℕ) → other ≢ name → reads (D.past disk.new) other ≡ reads (D.past disk.old) other }
+        ensures touches { IsTrue D.tells → Touches (λ n. n ≡ name) (D.past disk.old) (D.past disk.new) }
+
+        // At Ok all items are synced. At each moment a crash leaves under the name what it could leave before, or exactly these items.
+        ensures stands { (bytes : List ℕ) (items : List (List ℕ)) → IsTrue D.tells → reads (D.past disk.old) name ≡ Some bytes → HasItems bytes items → IsSettled (D.past disk.old) name
+            → IfOk result (λ found. IfSome found (λ log. Stands (D.past disk.new) log items (length items))) }
+        ensures any_moment { (bytes : List ℕ) (items : List (List ℕ)) → IsTrue D.tells → reads (D.past disk.old) name ≡ Some bytes → HasItems bytes items → IsSettled (D.past disk.old) name
+            → Moments (OldOrItems (D.past disk.old) name items) (D.past disk.old) (D.past disk.new) }
         ensures bad { (other : List ℕ) (at : ℕ) → IsErrOf result (LogErr.Bad other at) → other ≡ name }
         ensures never { IsErrOf result LogErr.TooLong → ⊥ }
-        ensures same { IsTrue D.tells → D.past disk.new ≡ D.past disk.old }
-        ensures time { D.moment disk.new ≡ D.moment disk.old }
+        ensures time { D.moment disk.old ≤ D.moment disk.new }
         ensures cause { LogCause (D.faults disk.old) (D.faults disk.new) (D.blamed disk.new) result }
     {
         let Some(bytes) = read_file(alloc, disk, name)? else {
             return Ok(None);
         };
-        if let Some(at) = bad_place(alloc, &bytes)? {
-            return Err(LogErr::Bad(name, at as u64));
-        }
-        Ok(Some(Log {
+        let found = scanned(alloc, name, &bytes)?;
+        repair(disk, name, &bytes, &found)?;
+        let mut log = Log {
             name,
             file: name,
             draft: false,
-            closed: true,
-        }))
+            closed: !found.was_open,
+        };
+        log.set_mark(disk, false)?;
+        Ok(Some(log))
     }
 
     // Sets the file's mark where it is another.

@@ -10,7 +10,7 @@ use crate::{Chunk, Log, LogErr, chunk};
 use file_mem::MemDisk;
 use file_trait::FileName;
 use log_items::{ItemErr, put_item};
-use std::alloc::Global;
+use std::alloc::{AllocError, Global};
 use std::test::Fail;
 
 const HEAD: [u8; 9] = [131, 104, 1, 119, 4, 108, 111, 103, 49];
@@ -99,26 +99,81 @@ fn a_large_item_comes_in_several_pieces(rt: HostRuntime) -> Result<(), Fail> {
     Ok(())
 }
 
+const CLOSED: [u8; 8] = [1, 2, 3, 4, 99, 88, 77, 11];
+
+const OPEN: [u8; 8] = [1, 2, 3, 4, 6, 7, 8, 9];
+
+const ITEM: [u8; 11] = [0, 0, 0, 3, 12, 44, 55, 66, 111, 110, 101];
+
+// A disk whose file of this name has these two parts, one behind the other.
+fn disk_with(
+    alloc: Global,
+    name: FileName,
+    front: &[u8],
+    rest: &[u8],
+) -> Result<MemDisk, AllocError> {
+    let mut bytes = Vec::from_slice(alloc, front)?;
+    bytes.extend_from_slice(rest)?;
+    let mut disk = MemDisk::new(alloc);
+    disk.put_file(name, &bytes)?;
+    Ok(disk)
+}
+
 #[test]
-fn the_first_wrong_place_is_found(rt: HostRuntime) -> Result<(), Fail> {
+fn a_log_is_resumed_with_its_whole_items(rt: HostRuntime) -> Result<(), Fail> {
     let name = FileName::new(b"LATEST.LOG").ok_or("name")?;
-    let cut: [u8; 27] = [
-        1, 2, 3, 4, 99, 88, 77, 11, 0, 0, 0, 1, 12, 44, 55, 66, 7, 0, 0, 0, 3, 12, 44, 55, 66, 111,
-        110,
+    let item = ITEM.as_slice();
+    let resumed = [
+        1, 2, 3, 4, 6, 7, 8, 9, 0, 0, 0, 3, 12, 44, 55, 66, 111, 110, 101,
     ];
     let table = [
-        (&cut[..3], 0),
-        ([1, 2, 3, 5].as_slice(), 0),
-        ([1, 2, 3, 4, 6, 7, 8, 10].as_slice(), 4),
-        (cut.as_slice(), 17),
+        (CLOSED.as_slice(), [].as_slice(), OPEN.as_slice()),
+        (CLOSED.as_slice(), item, resumed.as_slice()),
+        (OPEN.as_slice(), [].as_slice(), OPEN.as_slice()),
+        (OPEN.as_slice(), item, resumed.as_slice()),
     ];
-    for (bytes, wrong) in table {
-        let mut disk = MemDisk::new(rt.alloc());
-        disk.put_file(name, bytes)?;
+    for (head, items, wanted) in table {
+        let mut disk = disk_with(rt.alloc(), name, head, items)?;
+        assert!(rt; Log::resume(rt.alloc(), &mut disk, name)?.is_some());
+        assert_eq!(rt; disk.contents(name), Some(wanted));
+    }
+    for cut in 1..item.len() {
+        let mut disk = disk_with(rt.alloc(), name, &resumed, &item[..cut])?;
+        assert!(rt; Log::resume(rt.alloc(), &mut disk, name)?.is_some());
+        assert_eq!(rt; disk.contents(name), Some(resumed.as_slice()));
+    }
+    Ok(())
+}
+
+#[test]
+fn no_log_is_found_where_there_is_no_file(rt: HostRuntime) -> Result<(), Fail> {
+    let name = FileName::new(b"LATEST.LOG").ok_or("name")?;
+    let mut disk = MemDisk::new(rt.alloc());
+    assert!(rt; Log::resume(rt.alloc(), &mut disk, name)?.is_none());
+    assert_eq!(rt; disk.contents(name), None);
+    Ok(())
+}
+
+#[test]
+fn a_bad_file_stays_as_it_is(rt: HostRuntime) -> Result<(), Fail> {
+    let name = FileName::new(b"LATEST.LOG").ok_or("name")?;
+    let table: [(&[u8], &[u8], u64); 6] = [
+        (&CLOSED[..3], &[], 0),
+        (&[1, 2, 3, 5], &[], 0),
+        (&[1, 2, 3, 4, 6, 7, 8, 10], &[], 4),
+        // an incomplete item stands only behind an open mark, and only in the format
+        (&CLOSED, &ITEM[..10], 8),
+        (&OPEN, &[0, 0, 0, 3, 12, 44, 55, 67], 8),
+        (&OPEN, &[0, 0, 0, 0, 12, 44, 55, 66, 17], 16),
+    ];
+    for (head, rest, wrong) in table {
+        let mut disk = disk_with(rt.alloc(), name, head, rest)?;
         match Log::resume(rt.alloc(), &mut disk, name) {
             Err(LogErr::Bad(_, at)) => assert_eq!(rt; at, wrong),
             _ => assert!(rt; false),
         }
+        let same = disk_with(rt.alloc(), name, head, rest)?;
+        assert_eq!(rt; disk.contents(name), same.contents(name));
     }
     Ok(())
 }

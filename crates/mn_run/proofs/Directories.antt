@@ -1,5 +1,5 @@
 -- Every directory stands for a list of writes, or has no meaning from some place on.
-use Rattle.std.proofs.Common.{◌≡◌, ◌⊎◌, ℕ, ◌+◌, ◌^◌, ◌<◌, ◌≤◌, true, List, [], ◌∷◌, ◌++◌, length, take, Option, None, Some, Result, Ok, Err, refl, sym, ap, ◌∙◌, subst, inl, inr, arith}
+use Rattle.std.proofs.Common.{◌≡◌, ◌⊎◌, ℕ, ◌+◌, ◌^◌, ◌<◌, ◌≤◌, List, [], ◌∷◌, ◌++◌, length, take, Option, None, Some, Result, Ok, Err, refl, sym, ap, ◌∙◌, subst, inl, inr, arith}
 use Rattle.std.proofs.lemmas.Bool.{cases_Bool, cases_lt}
 use Rattle.std.proofs.lemmas.List.Elements.{All-cons, All-nil, All-head, All-tail}
 use Rattle.term_core.specs.Tree.{Tree, depth}
@@ -12,8 +12,8 @@ use Rattle.term_wire.proofs.Again.{read_again, one_tree}
 use Rattle.term_wire.proofs.Found.{read_text}
 use Rattle.term_wire.proofs.Law.{IsByte}
 use Rattle.term_wire.proofs.Texts.{text_bytes}
-use Rattle.log_items.specs.Items.{wire, log_bytes, AreContents}
-use Rattle.disk_logs.proofs.ClosedLogs.{closed_or_bad}
+use Rattle.log_items.specs.Items.{wire, HasItems}
+use Rattle.log_items.proofs.Unique.{file_or_bad}
 use Rattle.mn_run.specs.Commands.{row}
 use Rattle.mn_run.specs.Commits.{IsRow, AreRows, IsCommit, IsNoText, IsNoCommit, AreCommits, AreItemsOf, IsHead, log_head, part, commit_of}
 use Rattle.mn_run.specs.Files.{Files, latest, Stands, IsWrongFrom, NoMeaning}
@@ -194,15 +194,15 @@ log_or_wrong (first ∷ items) = elim (head_or_not first) [
 pub stands_or_not : (files : Files) → ((base : List Tree) × Stands files base) ⊎ ((at : ℕ) × NoMeaning files at)
 stands_or_not files = by (files latest) refl
   where
-    closed : (bytes : List ℕ) → files latest ≡ Some bytes → (items : List (List ℕ)) → AreContents items → bytes ≡ log_bytes true items → ((base : List Tree) × Stands files base) ⊎ ((at : ℕ) × NoMeaning files at)
-    closed bytes there items small is = elim (log_or_wrong items) [
-      | inl log ↦ inl (log.0, inr ((items, log.2, small, there ∙ ap (λ x. Some x) is), log.1))
-      | inr wrong ↦ inr (8 + length (wire (take wrong.0 items)), (bytes, there, inr (items, small, is, record { number = wrong.0; wrong = wrong.1; place = refl })))
+    has : (bytes : List ℕ) → files latest ≡ Some bytes → (items : List (List ℕ)) → HasItems bytes items → ((base : List Tree) × Stands files base) ⊎ ((at : ℕ) × NoMeaning files at)
+    has bytes there items listed = elim (log_or_wrong items) [
+      | inl log ↦ inl (log.0, inr ((bytes, items, there, log.2, listed), log.1))
+      | inr wrong ↦ inr (8 + length (wire (take wrong.0 items)), (bytes, there, inr (items, listed, record { number = wrong.0; wrong = wrong.1; place = refl })))
     ]
 
     by : (file : Option (List ℕ)) → files latest ≡ file → ((base : List Tree) × Stands files base) ⊎ ((at : ℕ) × NoMeaning files at)
     by None none = inl ([], inl (none, refl))
-    by (Some bytes) there = elim (closed_or_bad bytes) [
-      | inl log ↦ closed bytes there log.0 log.1 log.2
-      | inr bad ↦ inr (bad.0, (bytes, there, inl bad.1))
+    by (Some bytes) there = elim (file_or_bad bytes) [
+      | inl (items, listed) ↦ has bytes there items listed
+      | inr (at, bad) ↦ inr (at, (bytes, there, inl bad))
     ]

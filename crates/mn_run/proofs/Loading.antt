@@ -7,16 +7,16 @@ use Rattle.std.proofs.lemmas.List.{take_all, take-append-drop, length-take-le}
 use Rattle.std.proofs.lemmas.List.Elements.{All-append, All-cons, All-nil}
 use Rattle.term_core.specs.Tree.{Tree}
 use Rattle.file_trait.specs.DiskModel.{Past, reads}
-use Rattle.disk_logs.specs.Chunks.{places_of, HasPlace}
+use Rattle.disk_logs.specs.Chunks.{places_of, IsPlace, HasPlace}
 use Rattle.log_items.specs.Items.{wire, log_bytes, IsContent, AreContents, HasItems}
-use Rattle.log_items.proofs.Unique.{whole_file}
-use Rattle.disk_logs.specs.Logs.{Handle, Finds}
-use Rattle.disk_logs.specs.Closed.{IsBadAt}
+use Rattle.log_items.specs.Scan.{IsBadAt}
+use Rattle.file_trait.specs.Calls.{Has}
+use Rattle.disk_logs.specs.Logs.{Handle, IsLog, Finds, HasLog}
 use Rattle.disk_logs.specs.declared.error.LogErr.{LogErr}
 use Rattle.disk_logs.specs.declared.error.LogErr.TheVariants as log_err
 use Rattle.mn_run.specs.Commits.{IsRow, AreRows, IsCommit, IsNoCommit, AreCommits, AreItemsOf, IsHead, head_text}
-use Rattle.mn_run.specs.Files.{Files, latest, IsLogOf, LacksHead, Stands, IsWrongAt, NoMeaning, Keeps, Shows}
-use Rattle.mn_run.specs.Loads.{IsClosedFile, MakesTable, Loads, start_error}
+use Rattle.mn_run.specs.Files.{Files, latest, IsLogOf, HasWrites, LacksHead, Stands, IsWrongAt, NoMeaning, Keeps, Shows}
+use Rattle.mn_run.specs.Loads.{IsLogFile, MakesTable, Loads, start_error}
 use Rattle.mn_run.specs.Machine.{down, booted}
 use Rattle.mn_run.specs.Runs.{EndsDamaged, status_of}
 use Rattle.mn_run.specs.Steps.{StartsDamaged}
@@ -25,7 +25,7 @@ use Rattle.mn_run.specs.declared.outcome.Status.TheVariants as status
 use Rattle.mn_run.specs.declared.starting.StartErr.{StartErr}
 use Rattle.mn_run.specs.declared.starting.StartErr.TheVariants as start
 use Rattle.mn_run.proofs.CommitTexts.{text_of_head}
-use Rattle.mn_run.proofs.Kept.{keeps_whole}
+use Rattle.mn_run.proofs.Kept.{log_has, keeps_whole}
 use Rattle.mn_run.proofs.Meaning.{one_base, exclusive, one_meaning, place_at, written_more}
 use Rattle.mn_run.proofs.Rows.{records_put}
 
@@ -113,37 +113,82 @@ pub ok_map : {T E : Type 0} {P Q : T → Type 0} (r : Result T E) → ((x : T) �
 ok_map (Ok x) f h = f x h
 ok_map (Err e) f h = h
 
-pub loads_of : (files : Files) (bytes : List ℕ) (all items : List (List ℕ)) (table : List Tree) → files latest ≡ Some bytes → AreContents all → bytes ≡ log_bytes true all → items ≡ all → MakesTable items table → Loads files table
-loads_of files bytes all items table there small is same made = record {
+-- the items of the log, all of them
+pub record IsRead (files : Files) (items : List (List ℕ)) : Type 0 where
+  pub bytes : List ℕ
+  pub there : files latest ≡ Some bytes
+  pub has : HasItems bytes items
+
+pub all_read : (files : Files) (most : ℕ) (items : List (List ℕ)) → IsLogFile (files latest) → ((bytes : List ℕ) (all : List (List ℕ)) → files latest ≡ Some bytes → IsPlace bytes all 0 8 → items ≡ take most (drop 0 all))
+    → length items < most → IsRead files items
+all_read files most items (bytes, all, there, has) given short =
+    record { bytes = bytes; there = there; has = subst (HasItems bytes) (sym (taken_all most all items (given bytes all there (has, refl)) short)) has }
+
+pub loads_of : (files : Files) (items : List (List ℕ)) (table : List Tree) → IsRead files items → MakesTable items table → Loads files table
+loads_of files items table read made = record {
   rows = made.rows;
   good = made.good;
-  is = (items, made.commits, subst AreContents (sym same) small, there ∙ ap (λ xs. Some xs) (is ∙ ap (λ xs. log_bytes true xs) (sym same)));
+  is = (read.bytes, items, read.there, made.commits, read.has);
   same = made.same;
 }
 
+pub wrong_log : (files : Files) (items : List (List ℕ)) (at : ℕ) → IsRead files items → IsWrongAt items at → NoMeaning files at
+wrong_log files items at read wrong = (read.bytes, read.there, inr (items, read.has, wrong))
+
 -- ---- the start
 
-pub handle_is : (found : Option Handle) (log : Handle) (own : List ℕ) → found ≡ Some log → IfSome found (λ l. l ≡ record { name = own; draft = false; closed = true }) → own ≡ latest → log ≡ record { name = latest; draft = false; closed = true }
+pub handle_is : (found : Option Handle) (log : Handle) (own : List ℕ) → found ≡ Some log → IfSome found (λ l. l ≡ record { name = own; draft = false; closed = false }) → own ≡ latest → log ≡ record { name = latest; draft = false; closed = false }
 handle_is found log own found_is is same =
-    subst (λ n. log ≡ record { name = n; draft = false; closed = true }) same (subst (λ o. IfSome o (λ l. l ≡ record { name = own; draft = false; closed = true })) found_is is)
+    subst (λ n. log ≡ record { name = n; draft = false; closed = false }) same (subst (λ o. IfSome o (λ l. l ≡ record { name = own; draft = false; closed = false })) found_is is)
 
-pub loaded_shows : (past : Past) (log : Handle) (table base : List Tree) → Loads (reads past) table → Stands (reads past) base → log ≡ record { name = latest; draft = false; closed = true } → Shows table log past (booted (down base))
-loaded_shows past log table base loads (inl (none, nothing)) log_is = let some = loads.is.3 in absurd (cc)
-loaded_shows past log table base loads (inr (is, good)) log_is =
-    let same : loads.rows ≡ base = one_base (reads past) loads.rows base (inr (loads.is, loads.good)) (inr (is, good)) in
-    let once : base ++ [] ≡ base = append-nil base in
-    let twice : (base ++ []) ++ [] ≡ base = append-nil (base ++ []) ∙ once in
-    record {
+-- it was resumed with the items that it had
+abbrev pub Resumed : Past → Past → Type 0
+Resumed old new = (bytes : List ℕ) (items : List (List ℕ)) → reads old latest ≡ Some bytes → HasItems bytes items → reads new latest ≡ Some (log_bytes false items)
+
+-- by the call under the name of the log
+pub resumed_from : (old mid new : Past) (own : List ℕ) → mid ≡ old → own ≡ latest → ((bytes : List ℕ) (items : List (List ℕ)) → reads mid own ≡ Some bytes → HasItems bytes items → reads new own ≡ Some (log_bytes false items)) → Resumed old new
+resumed_from old mid new own same own_is given bytes items there has = sym (ap (reads new) own_is) ∙ given bytes items (ap (reads mid) own_is ∙ ap (λ p. reads p latest) same ∙ there) has
+
+pub kept_from : (old mid new : Past) (own : List ℕ) → mid ≡ old → own ≡ latest → ((bytes : List ℕ) (items : List (List ℕ)) → reads mid own ≡ Some bytes → HasItems bytes items → Has new own (λ left. HasItems left items))
+    → (bytes : List ℕ) (items : List (List ℕ)) → reads old latest ≡ Some bytes → HasItems bytes items → Has new latest (λ left. HasItems left items)
+kept_from old mid new own same own_is kept bytes items there has = subst (λ n. Has new n (λ left. HasItems left items)) own_is (kept bytes items (ap (reads mid) own_is ∙ ap (λ p. reads p latest) same ∙ there) has)
+
+fit_in : (bytes : List ℕ) (items : List (List ℕ)) → HasItems bytes items → AreContents items
+fit_in bytes items (closed, file) = file.fit
+
+pub loaded_shows : (old new : Past) (log : Handle) (table base : List Tree) → Loads (reads old) table → Stands (reads old) base → log ≡ record { name = latest; draft = false; closed = false } → Resumed old new → Shows table log new (booted (down base))
+loaded_shows old new log table base loads stands log_is resumed = by loads.is
+  where
+    same : loads.rows ≡ base
+    same = one_base (reads old) loads.rows base (inr (loads.is, loads.good)) stands
+
+    once : base ++ [] ≡ base
+    once = append-nil base
+
+    twice : (base ++ []) ++ [] ≡ base
+    twice = append-nil (base ++ []) ∙ once
+
+    by : HasWrites loads.rows (reads old latest) → Shows table log new (booted (down base))
+    by (bytes, items, there, commits, has) = record {
       up = refl;
       sure = refl;
       table = λ key. loads.same key ∙ ap (λ rows. records_of key (written rows [])) (same ∙ sym once);
       name = ap (λ (l : Handle). l.name) log_is;
       published = ap (λ (l : Handle). l.draft) log_is;
-      items = is.0;
-      commits = subst (λ rows. AreItemsOf rows is.0) (sym twice) is.1;
-      small = is.2;
-      file = is.3 ∙ ap (λ (l : Handle). Some (log_bytes l.closed is.0)) (sym log_is);
+      items = items;
+      commits = subst (λ rows. AreItemsOf rows items) (same ∙ sym twice) commits;
+      small = fit_in bytes items has;
+      file = resumed bytes items there has ∙ ap (λ (l : Handle). Some (log_bytes l.closed items)) (sym log_is);
     }
+
+pub resumed_stands : (old new : Past) (log : Handle) → IsLogFile (reads old latest) → log ≡ record { name = latest; draft = false; closed = false } → Resumed old new → IsLog new log
+resumed_stands old new log (bytes, items, there, has) is resumed = subst (IsLog new) (sym is) (items, resumed bytes items there has)
+
+-- a log that could not be resumed has its items still
+pub resume_keeps : (old new : Past) (base : List Tree) → IsLogFile (reads old latest) → Stands (reads old) base
+    → ((bytes : List ℕ) (items : List (List ℕ)) → reads old latest ≡ Some bytes → HasItems bytes items → Has new latest (λ left. HasItems left items)) → Keeps (reads new) base
+resume_keeps old new base (bytes, items, there, has) (inl (none, nothing)) kept = absurd (let both : Some bytes ≡ None = sym there ∙ none in cc)
+resume_keeps old new base is_there (inr ((bytes, items, there, commits, has), good)) kept = let left = kept bytes items there has in inr (left.0, items, left.1, commits, left.2)
 
 -- a log with its head alone
 pub head_stands : (file : Option (List ℕ)) → file ≡ Some (log_bytes true (head_text ∷ [])) → IsLogOf true [] file
@@ -171,15 +216,12 @@ new_keeps files is = let head = head_stands (files latest) is in keeps_whole tru
 -- without a log a directory stands for no writes
 pub stands_none : (files : Files) (base : List Tree) → files latest ≡ None → Stands files base → base ≡ []
 stands_none files base none (inl (also, is)) = is
-stands_none files base none (inr ((items, commits, small, is), good)) = absurd (cc)
+stands_none files base none (inr ((bytes, items, there, commits, listed), good)) = absurd (cc)
 
-none_found : (found : Option Handle) (file : Option (List ℕ)) → found ≡ None → Finds {T = Handle} (Ok found) file → file ≡ None
-none_found found file is h = subst (λ o. Finds {T = Handle} (Ok o) file) is h
-
--- what stands where no log was found
-pub no_writes : (files : Files) (base : List Tree) (found : Option Handle) (own : List ℕ) → own ≡ latest → found ≡ None → Finds {T = Handle} (Ok found) (files own) → Stands files base → (files latest ≡ None) × (base ≡ [])
-no_writes files base found own own_is is h stands =
-    let none : files latest ≡ None = none_found found (files latest) is (subst (λ n. Finds {T = Handle} (Ok found) (files n)) own_is h) in
+-- what stands where there is no log
+pub no_writes : (files : Files) (base : List Tree) (own : List ℕ) → own ≡ latest → HasLog (Ok false) (files own) → Stands files base → (files latest ≡ None) × (base ≡ [])
+no_writes files base own own_is h stands =
+    let none : files latest ≡ None = subst (λ n. HasLog (Ok false) (files n)) own_is h in
     (none, stands_none files base none stands)
 
 pub new_failed : (old new : Files) (base : List Tree) → (old latest ≡ None) × (base ≡ []) → (new latest ≡ old latest) ⊎ (new latest ≡ Some (log_bytes true (head_text ∷ []))) → Keeps new base
@@ -199,20 +241,27 @@ pub no_first : (items : List (List ℕ)) → slice_get items 0 ≡ None → Lack
 no_first [] is = λ first others same head. cc same
 no_first (x ∷ items) is = absurd (cc)
 
--- ---- a closed file
+-- ---- the log's file
 
-pub has_items : (bytes : List ℕ) (items : List (List ℕ)) → AreContents items → bytes ≡ log_bytes true items → HasItems bytes items
-has_items bytes items fit is = (true, whole_file true bytes items fit is)
+pub first_place : (past : Past) → IsLogFile (reads past latest) → HasPlace past latest 8
+first_place past (bytes, items, there, has) = (bytes, items, 0, there, (has, refl))
 
-pub first_place : (past : Past) → IsClosedFile (reads past latest) → HasPlace past latest 8
-first_place past (bytes, is, (items, fit, whole)) = (bytes, items, 0, is, (has_items bytes items fit whole, refl))
+-- a log that is there is one of items
+pub checked_log : (files : Files) (own : List ℕ) → own ≡ latest → HasLog (Ok true) (files own) → IsLogFile (files latest)
+checked_log files own own_is h = subst (λ n. IsLogFile (files n)) own_is h
+
+pub never_absent : (files : Files) (own : List ℕ) (found : Option Handle) → own ≡ latest → found ≡ None → Finds {T = Handle} (Ok found) (files own) → IsLogFile (files latest) → ⊥
+never_absent files own found own_is is h (bytes, items, there, has) =
+    let none : files own ≡ None = subst (λ o. Finds {T = Handle} (Ok o) (files own)) is h in
+    let both : Some bytes ≡ None = sym there ∙ ap files (sym own_is) ∙ none in
+    absurd (cc)
 
 pub loaded_means : (files : Files) (table : List Tree) (at : ℕ) → Loads files table → NoMeaning files at → ⊥
 loaded_means files table at loads none = exclusive files loads.rows at (inr (loads.is, loads.good)) none
 
 pub stands_kept : (files : Files) (base : List Tree) → Stands files base → Keeps files base
 stands_kept files base (inl (none, is)) = inl (none, is)
-stands_kept files base (inr ((items, commits, small, is), good)) = keeps_whole true files base items commits small is
+stands_kept files base (inr (has, good)) = inr has
 
 pub starts_damaged : (files : Files) (at : ℕ) (error : StartErr) → ((name : List ℕ) (place : ℕ) → error ≡ start.Damaged name place → (name ≡ latest) × NoMeaning files place) → NoMeaning files at → StartsDamaged at error
 starts_damaged files at start.Fault h none = tt
@@ -229,6 +278,17 @@ resume_damaged files (log_err.Bad other place) name at (bytes, there, bad) named
     (sym same_name ∙ named other place refl, (bytes, there, inl (subst (IsBadAt bytes) same_place bad)))
 resume_damaged files log_err.TooLong name at found named is = absurd (cc)
 resume_damaged files log_err.Memory name at found named is = absurd (cc)
+
+-- the same of one that was checked
+pub check_damaged : (files : Files) (error : LogErr) (name : List ℕ) (at : ℕ) → HasLog (Err error) (files latest) → ((other : List ℕ) (place : ℕ) → error ≡ log_err.Bad other place → other ≡ latest)
+    → start_error error ≡ start.Damaged name at → (name ≡ latest) × NoMeaning files at
+check_damaged files (log_err.File other) name at found named is = absurd (cc)
+check_damaged files (log_err.Bad other place) name at (bytes, there, bad) named is =
+    let same_name : other ≡ name = cc in
+    let same_place : place ≡ at = cc in
+    (sym same_name ∙ named other place refl, (bytes, there, inl (subst (IsBadAt bytes) same_place bad)))
+check_damaged files log_err.TooLong name at found named is = absurd (cc)
+check_damaged files log_err.Memory name at found named is = absurd (cc)
 
 -- ---- the status of a start that failed
 

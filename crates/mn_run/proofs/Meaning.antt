@@ -1,15 +1,14 @@
 -- What a directory stands for: one list of writes, or no meaning from one place on.
-use Rattle.std.proofs.Common.{◌≡◌, ℕ, zero, suc, ◌+◌, ◌<◌, true, List, [], ◌∷◌, ◌++◌, length, take, Some, refl, sym, ap, ◌∙◌, subst, inl, inr, arith, length-append}
+use Rattle.std.proofs.Common.{◌≡◌, ◌⊎◌, ℕ, zero, suc, ◌+◌, ◌<◌, List, [], ◌∷◌, ◌++◌, length, take, Option, Some, refl, sym, ap, ◌∙◌, subst, inl, inr, arith, length-append}
 use Rattle.std.specs.Prelude.{slice_get}
 use Rattle.std.proofs.lemmas.List.Elements.{All-head, All-tail}
 use Rattle.term_core.specs.Tree.{Tree}
-use Rattle.log_items.specs.Items.{item_bytes, wire, log_bytes, AreContents}
+use Rattle.log_items.specs.Items.{item_bytes, wire, HasItems}
+use Rattle.log_items.specs.Scan.{IsBadAt}
+use Rattle.log_items.proofs.Unique.{one_list, file_not_bad, one_place}
 use Rattle.disk_logs.specs.Chunks.{places_of}
-use Rattle.disk_logs.specs.Closed.{IsBadAt}
-use Rattle.log_items.proofs.Unique.{one_list, whole_file}
-use Rattle.disk_logs.proofs.ClosedLogs.{closed_not_bad, one_place}
 use Rattle.mn_run.specs.Commits.{IsRow, AreRows, IsCommit, IsNoCommit, AreCommits, AreItemsOf}
-use Rattle.mn_run.specs.Files.{Files, Stands, LacksHead, IsWrongFrom, IsWrongLogAt, NoMeaning}
+use Rattle.mn_run.specs.Files.{Files, latest, Stands, LacksHead, IsWrongFrom, IsWrongAt, IsWrongLogAt, NoMeaning}
 use Rattle.mn_run.specs.Tables.{put_record, written}
 use Rattle.mn_run.proofs.CommitsRead.{same_commit}
 
@@ -34,17 +33,21 @@ same_items rows others (first ∷ contents) s t = same_rows rows others contents
 some_is : {T : Type 0} (x y : T) → Some x ≡ Some y → x ≡ y
 some_is x y h = cc
 
--- two lists of items of one closed file
-one_closed : (items others : List (List ℕ)) → AreContents items → AreContents others → log_bytes true items ≡ log_bytes true others → items ≡ others
-one_closed items others s t is = one_list (log_bytes true items) items others (true, whole_file true (log_bytes true items) items s refl) (true, whole_file true (log_bytes true items) others t is)
+-- two lists of items of one file
+module _ (file : Option (List ℕ)) (bytes texts : List ℕ) (there : file ≡ Some bytes) (here : file ≡ Some texts) where
+  one_file : bytes ≡ texts
+  one_file = some_is bytes texts (sym there ∙ here)
+
+  one_items : (items others : List (List ℕ)) → HasItems bytes items → HasItems texts others → items ≡ others
+  one_items items others listed also = one_list texts items others (subst (λ b. HasItems b items) one_file listed) also
 
 pub one_base : (files : Files) (base other : List Tree) → Stands files base → Stands files other → base ≡ other
 one_base files base other (inl (a, none)) (inl (b, also)) = none ∙ sym also
-one_base files base other (inl (a, none)) (inr ((items, commits, small, is), good)) = absurd (cc)
-one_base files base other (inr ((items, commits, small, is), good)) (inl (b, none)) = absurd (cc)
-one_base files base other (inr ((items, commits, small, is), good)) (inr ((others, texts, few, also), well)) =
-    let same : items ≡ others = one_closed items others small few (some_is _ _ (sym is ∙ also)) in
-    same_items base other others (subst (AreItemsOf base) same commits) texts
+one_base files base other (inl (a, none)) (inr ((texts, others, here, commits, also), well)) = absurd (cc)
+one_base files base other (inr ((bytes, items, there, commits, listed), good)) (inl (b, none)) = absurd (cc)
+one_base files base other (inr ((bytes, items, there, commits, listed), good)) (inr ((texts, others, here, more, also), well)) =
+    let same : items ≡ others = one_items (files latest) bytes texts there here items others listed also in
+    same_items base other others (subst (AreItemsOf base) same commits) more
 
 -- ---- a meaning or none
 
@@ -70,12 +73,12 @@ not_wrong base (first ∷ contents) n good s (inr h) = by h.front h.commits h.is
 
 -- a directory that stands for something has a meaning
 pub exclusive : (files : Files) (base : List Tree) (at : ℕ) → Stands files base → NoMeaning files at → ⊥
-exclusive files base at (inl (none, is)) (bytes, some, bad) = absurd (cc)
-exclusive files base at (inr ((items, commits, small, a), good)) (bytes, some, inl bad) = closed_not_bad bytes at (items, small, some_is _ _ (sym some ∙ a)) bad
-exclusive files base at (inr ((items, commits, small, a), good)) (bytes, some, inr bad) =
-    let same : bad.0 ≡ items = one_closed bad.0 items bad.1 small (sym bad.2 ∙ some_is _ _ (sym some ∙ a)) in
-    let wrong = bad.3 in
-    not_wrong base items wrong.number good commits (subst (λ xs. IsWrongFrom xs wrong.number) same wrong.wrong)
+exclusive files base at (inl (none, is)) (texts, here, bad) = absurd (cc)
+exclusive files base at (inr ((bytes, items, there, commits, listed), good)) (texts, here, inl bad) =
+    file_not_bad texts items at (subst (λ b. HasItems b items) (one_file (files latest) bytes texts there here) listed) bad
+exclusive files base at (inr ((bytes, items, there, commits, listed), good)) (texts, here, inr (others, also, wrong)) =
+    let same : items ≡ others = one_items (files latest) bytes texts there here items others listed also in
+    not_wrong base others wrong.number good (subst (AreItemsOf base) same commits) wrong.wrong
 
 -- ---- one place
 
@@ -111,17 +114,21 @@ one_number items m n (inr g) (inr h) = g.number ∙ by g.front h.front g.commits
     by (x ∷ front) [] p q is = absurd q
     by (x ∷ front) (y ∷ back) p q is = ap suc (one_wrong g.rows h.rows front back g.other h.other g.others h.others g.good h.good p.1 q.1 g.bad h.bad (cc))
 
-one_wrong_place : (bytes : List ℕ) (at other : ℕ) → IsWrongLogAt bytes at → IsWrongLogAt bytes other → at ≡ other
-one_wrong_place bytes at other (items, s, is, g) (others, t, also, h) =
-    let same : items ≡ others = one_closed items others s t (sym is ∙ also) in
-    let number : g.number ≡ h.number = one_number others g.number h.number (subst (λ xs. IsWrongFrom xs g.number) same g.wrong) h.wrong in
-    g.place ∙ (λ i. 8 + length (wire (take (number i) (same i)))) ∙ sym h.place
+one_wrong_place : (items : List (List ℕ)) (at other : ℕ) → IsWrongAt items at → IsWrongAt items other → at ≡ other
+one_wrong_place items at other g h = g.place ∙ ap (λ n. 8 + length (wire (take n items))) (one_number items g.number h.number g.wrong h.wrong) ∙ sym h.place
+
+-- of one file
+one_in_file : (bytes : List ℕ) (at other : ℕ) → IsBadAt bytes at ⊎ IsWrongLogAt bytes at → IsBadAt bytes other ⊎ IsWrongLogAt bytes other → at ≡ other
+one_in_file bytes at other (inl bad) (inl worse) = one_place bytes at other bad worse
+one_in_file bytes at other (inl bad) (inr (others, also, wrong)) = absurd (file_not_bad bytes others at also bad)
+one_in_file bytes at other (inr (items, listed, wrong)) (inl bad) = absurd (file_not_bad bytes items other listed bad)
+one_in_file bytes at other (inr (items, listed, wrong)) (inr (others, also, worse)) =
+    let same : items ≡ others = one_list bytes items others listed also in
+    one_wrong_place others at other (subst (λ xs. IsWrongAt xs at) same wrong) worse
 
 pub one_meaning : (files : Files) (at other : ℕ) → NoMeaning files at → NoMeaning files other → at ≡ other
-one_meaning files at other (bytes, is, inl a) (texts, also, inl b) = one_place bytes at other a (subst (λ x. IsBadAt x other) (some_is _ _ (sym also ∙ is)) b)
-one_meaning files at other (bytes, is, inl a) (texts, also, inr b) = absurd (closed_not_bad bytes at (b.0, b.1, some_is _ _ (sym is ∙ also) ∙ b.2) a)
-one_meaning files at other (bytes, is, inr a) (texts, also, inl b) = absurd (closed_not_bad texts other (a.0, a.1, some_is _ _ (sym also ∙ is) ∙ a.2) b)
-one_meaning files at other (bytes, is, inr a) (texts, also, inr b) = one_wrong_place bytes at other a (subst (λ x. IsWrongLogAt x other) (some_is _ _ (sym also ∙ is)) b)
+one_meaning files at other (bytes, there, bad) (texts, here, also) =
+    one_in_file texts at other (subst (λ b. IsBadAt b at ⊎ IsWrongLogAt b at) (one_file (files latest) bytes texts there here) bad) also
 
 -- ---- places of items
 

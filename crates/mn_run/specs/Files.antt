@@ -3,8 +3,8 @@ use Rattle.std.specs.Prelude.{◌≡◌, ◌⊎◌, ℕ, ◌+◌, Bool, true, fa
 use Rattle.term_core.specs.Tree.{Tree}
 use Rattle.file_trait.specs.DiskModel.{Past, reads}
 use Rattle.log_items.specs.Items.{wire, log_bytes, HasItems, AreContents}
+use Rattle.log_items.specs.Scan.{IsBadAt}
 use Rattle.disk_logs.specs.Logs.{Handle}
-use Rattle.disk_logs.specs.Closed.{IsBadAt}
 use Rattle.mn_run.specs.Commits.{IsHead, AreItemsOf, AreRows, IsNoCommit}
 use Rattle.mn_run.specs.Machine.{Machine}
 use Rattle.mn_run.specs.Tables.{records_of}
@@ -20,9 +20,14 @@ latest = codes "LATEST.LOG"
 abbrev pub IsLogOf : Bool → List Tree → Option (List ℕ) → Type 0
 IsLogOf closed rows file = (items : List (List ℕ)) × AreItemsOf rows items × AreContents items × (file ≡ Some (log_bytes closed items))
 
--- a directory without a log stands for no writes, and one with a closed log for those that it has
+-- a file, closed or open, whose items are those of a log with these writes
+abbrev pub HasWrites : List Tree → Option (List ℕ) → Type 0
+HasWrites rows file = (bytes : List ℕ) × (items : List (List ℕ)) × (file ≡ Some bytes) × AreItemsOf rows items × HasItems bytes items
+
+-- A directory without a log stands for no writes, and one with a log for those that it has, whether it is closed or open. An
+-- incomplete item at an open log's end is no write.
 abbrev pub Stands : Files → List Tree → Type 0
-Stands files base = ((files latest ≡ None) × (base ≡ [])) ⊎ (IsLogOf true base (files latest) × AreRows base)
+Stands files base = ((files latest ≡ None) × (base ≡ [])) ⊎ (HasWrites base (files latest) × AreRows base)
 
 -- the first item is not a log's
 abbrev pub LacksHead : List (List ℕ) → Type 0
@@ -50,17 +55,17 @@ pub record IsWrongAt (items : List (List ℕ)) (at : ℕ) : Type 0 where
   pub wrong : IsWrongFrom items number
   pub place : at ≡ 8 + length (wire (take number items))
 
--- a closed log with items that are wrong from this place on
+-- a file of items that are wrong from this place on
 abbrev pub IsWrongLogAt : List ℕ → ℕ → Type 0
-IsWrongLogAt bytes at = (items : List (List ℕ)) × AreContents items × (bytes ≡ log_bytes true items) × IsWrongAt items at
+IsWrongLogAt bytes at = (items : List (List ℕ)) × HasItems bytes items × IsWrongAt items at
 
--- the log has no meaning, from this place on: it is no closed log, or one with other items
+-- the log has no meaning, from this place on: it is no file of items, or one with other items
 abbrev pub NoMeaning : Files → ℕ → Type 0
 NoMeaning files at = (bytes : List ℕ) × (files latest ≡ Some bytes) × (IsBadAt bytes at ⊎ IsWrongLogAt bytes at)
 
 -- the log has the commits of these writes, and no log has none
 abbrev pub Keeps : Files → List Tree → Type 0
-Keeps files rows = ((files latest ≡ None) × (rows ≡ [])) ⊎ ((bytes : List ℕ) × (items : List (List ℕ)) × (files latest ≡ Some bytes) × AreItemsOf rows items × HasItems bytes items)
+Keeps files rows = ((files latest ≡ None) × (rows ≡ [])) ⊎ HasWrites rows (files latest)
 
 -- the log has the commits of these writes, and of one in doubt perhaps
 abbrev pub KeepsUpTo : Files → List Tree → Option Tree → Type 0

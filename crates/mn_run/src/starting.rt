@@ -11,7 +11,7 @@ ghost use Rattle.disk_logs.specs.Logs.{IsLog};
 ghost use Rattle.disk_logs.specs.Errors.{OnlyFileOrMemory, LogCause};
 ghost use Rattle.mn_run.specs.Commits.{IsRow, IsCommit, IsNoCommit, AreItemsOf, head_text};
 ghost use Rattle.mn_run.specs.Files.{Stands, NoMeaning, LacksHead, IsWrongAt, Keeps, Shows, latest};
-ghost use Rattle.mn_run.specs.Loads.{IsClosedFile, Loads, MakesTable, start_error as error_of};
+ghost use Rattle.mn_run.specs.Loads.{IsLogFile, Loads, MakesTable, start_error as error_of};
 ghost use Rattle.mn_run.specs.Machine.{down, booted};
 ghost use Rattle.mn_run.specs.Steps.{StartsDamaged};
 ghost use Rattle.mn_run.specs.declared.starting.StartErr.TheVariants.{Memory};
@@ -20,7 +20,7 @@ use crate::commits::{HEAD_TEXT, is_head, row_of};
 use crate::names;
 use crate::node::Node;
 use crate::table::Table;
-use disk_logs::{Items, Log, LogErr, chunk};
+use disk_logs::{Items, Log, LogErr, check, chunk};
 use file_trait::{Disk, FileName};
 use std::alloc::{AllocError, Global};
 use term_core::Term;
@@ -56,15 +56,37 @@ pub fn start<D: Disk>(alloc: Global, disk: &mut D) -> Result<Node, StartErr>
     ensures later { D.faults disk.old ≤ D.faults disk.new }
     ensures fault { IsErrOf result StartErr.Fault → Rose (D.faults disk.old) (D.faults disk.new) }
 {
-    match Log::resume(alloc, disk, names::latest()) {
-        Ok(Some(log)) => match load(alloc, disk) {
-            Ok(table) => Ok(Node::new(log, table)),
-            Err(error) => Err(error),
-        },
-        Ok(None) => match new_log(alloc, disk) {
+    match check(alloc, disk, names::latest()) {
+        Ok(true) => loaded(alloc, disk),
+        Ok(false) => match new_log(alloc, disk) {
             Ok(log) => Ok(Node::new(log, Table::new(alloc))),
             Err(error) => Err(start_error(error)),
         },
+        Err(error) => Err(start_error(error)),
+    }
+}
+
+/// A node with the table that the log makes. Nothing is done to the log before all of it was read.
+fn loaded<D: Disk>(alloc: Global, disk: &mut D) -> Result<Node, StartErr>
+    requires { IsTrue D.tells → IsLogFile (reads (D.past disk.old) latest) }
+    ensures started { IsTrue D.tells → (base : List Tree) → Stands (reads (D.past disk.old)) base
+        → IfOk result (λ node. Shows (map tree_of node.table.rows.items) node.log (D.past disk.new) (booted (down base))) }
+    ensures failed { IsTrue D.tells → (base : List Tree) → Stands (reads (D.past disk.old)) base → OnErr result (Keeps (reads (D.past disk.new)) base) }
+    ensures stands { IsTrue D.tells → IfOk result (λ node. IsLog (D.past disk.new) node.log) }
+    ensures damaged { IsTrue D.tells → (name : List ℕ) (at : ℕ) → result ≡ Err (StartErr.Damaged name at) → (name ≡ latest) × NoMeaning (reads (D.past disk.old)) at }
+    ensures meaning { IsTrue D.tells → (at : ℕ) → NoMeaning (reads (D.past disk.old)) at → MatchResult result (λ node. ⊥) (StartsDamaged at) }
+    ensures kept { IsTrue D.tells → (name : List ℕ) (at : ℕ) → result ≡ Err (StartErr.Damaged name at) → D.past disk.new ≡ D.past disk.old }
+    ensures later { D.faults disk.old ≤ D.faults disk.new }
+    ensures fault { IsErrOf result StartErr.Fault → Rose (D.faults disk.old) (D.faults disk.new) }
+{
+    let table = match load(alloc, disk) {
+        Ok(table) => table,
+        Err(error) => return Err(error),
+    };
+    match Log::resume(alloc, disk, names::latest()) {
+        Ok(Some(log)) => Ok(Node::new(log, table)),
+        // It was there before.
+        Ok(None) => Err(StartErr::Damaged(names::latest(), 0)),
         Err(error) => Err(start_error(error)),
     }
 }
@@ -84,7 +106,7 @@ fn new_log<D: Disk>(alloc: Global, disk: &mut D) -> Result<Log, LogErr>
 
 /// The table that the log's commits make.
 fn load<D: Disk>(alloc: Global, disk: &mut D) -> Result<Table, StartErr>
-    requires { IsTrue D.tells → IsClosedFile (reads (D.past disk.old) latest) }
+    requires { IsTrue D.tells → IsLogFile (reads (D.past disk.old) latest) }
     ensures loaded { IsTrue D.tells → IfOk result (λ table. Loads (reads (D.past disk.old)) (map tree_of table.rows.items)) }
     ensures damaged { IsTrue D.tells → (name : List ℕ) (at : ℕ) → result ≡ Err (StartErr.Damaged name at) → (name ≡ latest) × NoMeaning (reads (D.past disk.old)) at }
     ensures same { IsTrue D.tells → D.past disk.new ≡ D.past disk.old }

@@ -159,3 +159,29 @@ fn a_log_without_a_meaning_is_refused_at_its_place(rt: HostRuntime) -> Result<()
     }
     Ok(())
 }
+
+// A log that was left open, whose last item, the one of the second put, may be incomplete. It begins at 75.
+#[test]
+fn a_log_that_was_left_open_is_repaired(rt: HostRuntime) -> Result<(), Fail> {
+    let name = FileName::new(b"LATEST.LOG").ok_or("name")?;
+    let mut disk = MemDisk::new(rt.alloc());
+    let script = b"put t {t,1,a}\nput t {t,2,b}".as_slice();
+    let (status, _) = ran(rt.alloc(), &mut disk, script, whole(7))?;
+    assert_eq!(rt; status, Status::Done);
+    let closed = disk.contents(name).ok_or("log")?.to_vec(rt.alloc())?;
+    assert_eq!(rt; closed.len(), 125);
+    let one = b"{started,0}\n[{t,1,a}]\n[]\n".as_slice();
+    let both = b"{started,0}\n[{t,1,a}]\n[{t,2,b}]\n".as_slice();
+    for (len, expected) in [(75, one), (76, one), (83, one), (124, one), (125, both)] {
+        let mut bytes = vec![in rt.alloc(); 1, 2, 3, 4, 6, 7, 8, 9]?;
+        bytes.extend_from_slice(&closed[8..len])?;
+        let mut disk = MemDisk::new(rt.alloc());
+        disk.put_file(name, &bytes)?;
+        let (status, replies) = ran(rt.alloc(), &mut disk, b"get t 1\nget t 2", whole(7))?;
+        assert_eq!(rt; status, Status::Done);
+        assert_eq!(rt; replies.as_slice(), expected);
+        let whole_items = if len == 125 { 125 } else { 75 };
+        assert_eq!(rt; disk.contents(name).ok_or("log")?, &closed[..whole_items]);
+    }
+    Ok(())
+}

@@ -3,8 +3,7 @@ use Rattle.std.proofs.lemmas.Bool.{cases_Bool}
 use Rattle.term_core.specs.View.{tree_of}
 use Rattle.file_trait.specs.DiskModel.{reads}
 use Rattle.disk_logs.specs.Chunks.{HasPlace}
-use Rattle.mn_run.specs.Files.{IsWrongAt}
-use Rattle.mn_run.proofs.Loading.{ok_map, loads_of, taken_all, has_items, first_place}
+use Rattle.mn_run.proofs.Loading.{IsRead, all_read, ok_map, loads_of, wrong_log, first_place}
 use Rattle.mn_run.proofs.starting.load.Goals as goal
 
 pub chunk-requires-clause-place : goal.chunk-requires-clause-place
@@ -15,20 +14,16 @@ chunk-requires-clause-place g c told =
 pub returns-clause-loaded : goal.returns-clause-loaded
 returns-clause-loaded g c told =
     let files = reads (g.D.Disk.past c.args.disk.now) in
-    let file = c.requires told in
-    let closed = file.2 in
     let read = c.in-Ok.read in
     let ended : IsTrue read.ended = let test = c.if-not-read.false in elim (cases_Bool read.ended) [ inl is_true ↦ is_true | inr is_false ↦ absurd (cc) ] in
-    let all = taken_all _ closed.0 read.items (c.in-Ok.ensures.items file.0 closed.0 0 told (ap files c.latest.ensures.value ∙ file.1) (has_items file.0 closed.0 closed.1 closed.2, refl)) (c.in-Ok.ensures.chunk.ended.0 ended) in
-    ok_map c.table_of.result (λ table made. loads_of files file.0 closed.0 read.items (map tree_of table.rows.items) file.1 closed.1 closed.2 all made) c.table_of.ensures.made
+    let all : IsRead files read.items = all_read files _ read.items (c.requires told) (λ bytes all there place. c.in-Ok.ensures.items bytes all 0 told (ap files c.latest.ensures.value ∙ there) place) (c.in-Ok.ensures.chunk.ended.0 ended) in
+    ok_map c.table_of.result (λ table made. loads_of files read.items (map tree_of table.rows.items) all made) c.table_of.ensures.made
 
 pub returns-clause-damaged : goal.returns-clause-damaged
 returns-clause-damaged g c told name at is =
     let files = reads (g.D.Disk.past c.args.disk.now) in
-    let file = c.requires told in
-    let closed = file.2 in
     let read = c.in-Ok.read in
     let ended : IsTrue read.ended = let test = c.if-not-read.false in elim (cases_Bool read.ended) [ inl is_true ↦ is_true | inr is_false ↦ absurd (cc) ] in
-    let all = taken_all _ closed.0 read.items (c.in-Ok.ensures.items file.0 closed.0 0 told (ap files c.latest.ensures.value ∙ file.1) (has_items file.0 closed.0 closed.1 closed.2, refl)) (c.in-Ok.ensures.chunk.ended.0 ended) in
+    let all : IsRead files read.items = all_read files _ read.items (c.requires told) (λ bytes all there place. c.in-Ok.ensures.items bytes all 0 told (ap files c.latest.ensures.value ∙ there) place) (c.in-Ok.ensures.chunk.ended.0 ended) in
     let wrong = c.table_of.ensures.damaged name at is in
-    (wrong.0, (file.0, file.1, inr (closed.0, closed.1, closed.2, subst (λ items. IsWrongAt items at) all wrong.1)))
+    (wrong.0, wrong_log files read.items at all wrong.1)
