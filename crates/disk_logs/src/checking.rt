@@ -20,6 +20,7 @@ pub fn check<D: Disk>(alloc: Global, disk: &mut D, name: FileName) -> Result<boo
     ensures same { IsTrue D.tells → D.past disk.new ≡ D.past disk.old }
     ensures time { D.moment disk.new ≡ D.moment disk.old }
     ensures cause { LogCause (D.faults disk.old) (D.faults disk.new) (D.blamed disk.new) result }
+    ensures named { (other : List ℕ) → IsErrOf result (LogErr.File other) → other ≡ name }
 {
     let Some(bytes) = read_file(alloc, disk, name)? else {
         return Ok(false);

@@ -60,6 +60,7 @@ impl Log {
         ensures only { length head_item.now ≤ 2 ^ 28 → OnlyFileOrMemory result }
         ensures time { D.moment disk.old ≤ D.moment disk.new }
         ensures cause { LogCause (D.faults disk.old) (D.faults disk.new) (D.blamed disk.new) result }
+        ensures named { (other : List ℕ) → IsErrOf result (LogErr.File other) → other ≡ name_of_draft name }
     {
         let file = draft_name(name);
         let bytes = draft_bytes(alloc, head_item)?;
@@ -102,6 +103,7 @@ impl Log {
         ensures only { OnlyFileOrMemory result }
         ensures time { D.moment disk.old ≤ D.moment disk.new }
         ensures cause { LogCause (D.faults disk.old) (D.faults disk.new) (D.blamed disk.new) result }
+        ensures named { (other : List ℕ) → IsErrOf result (LogErr.File other) → (other ≡ self.old.name) ⊎ (other ≡ name_of_draft self.old.name) }
     {
         let draft = self.file;
         told(draft, disk.sync(draft))?;
@@ -136,6 +138,7 @@ impl Log {
         ensures only { OnlyFileOrMemory result }
         ensures time { D.moment disk.old ≤ D.moment disk.new }
         ensures cause { LogCause (D.faults disk.old) (D.faults disk.new) (D.blamed disk.new) result }
+        ensures named { (name : List ℕ) → IsErrOf result (LogErr.File name) → name ≡ file_of self.old }
     {
         let closed = mark_to_append(self.draft, self.closed);
         self.set_mark(disk, closed)?;
@@ -155,6 +158,7 @@ impl Log {
         ensures only { OnlyFile result }
         ensures time { D.moment disk.old ≤ D.moment disk.new }
         ensures cause { LogCause (D.faults disk.old) (D.faults disk.new) (D.blamed disk.new) result }
+        ensures named { (name : List ℕ) → IsErrOf result (LogErr.File name) → name ≡ file_of self.old }
     {
         told(self.file, disk.sync(self.file))
     }
@@ -177,6 +181,7 @@ impl Log {
         ensures only { OnlyFileOrMemory result }
         ensures time { D.moment disk.old ≤ D.moment disk.new }
         ensures cause { LogCause (D.faults disk.old) (D.faults disk.new) (D.blamed disk.new) result }
+        ensures named { (name : List ℕ) → IsErrOf result (LogErr.File name) → name ≡ file_of self.old }
     {
         self.set_mark(disk, true)?;
         self.sync(disk)
@@ -212,6 +217,7 @@ impl Log {
         ensures never { IsErrOf result LogErr.TooLong → ⊥ }
         ensures time { D.moment disk.old ≤ D.moment disk.new }
         ensures cause { LogCause (D.faults disk.old) (D.faults disk.new) (D.blamed disk.new) result }
+        ensures named { (other : List ℕ) → IsErrOf result (LogErr.File other) → other ≡ name }
     {
         let Some(bytes) = read_file(alloc, disk, name)? else {
             return Ok(None);
@@ -246,6 +252,7 @@ impl Log {
         ensures only { OnlyFileOrMemory result }
         ensures time { D.moment disk.old ≤ D.moment disk.new }
         ensures cause { LogCause (D.faults disk.old) (D.faults disk.new) (D.blamed disk.new) result }
+        ensures named { (name : List ℕ) → IsErrOf result (LogErr.File name) → name ≡ file_of self.old }
     {
         if self.closed == closed {
             return Ok(());
@@ -327,6 +334,7 @@ fn clear<D: Disk>(disk: &mut D, name: FileName) -> Result<(), LogErr>
     ensures only { OnlyFileOrMemory result }
     ensures time { D.moment disk.old ≤ D.moment disk.new }
     ensures cause { LogCause (D.faults disk.old) (D.faults disk.new) (D.blamed disk.new) result }
+    ensures named { (other : List ℕ) → IsErrOf result (LogErr.File other) → other ≡ name }
 {
     match told(name, disk.len(name))? {
         Some(_) => told(name, disk.remove(name)),

@@ -37,6 +37,7 @@ pub(crate) fn read_piece<D: Disk>(
     ensures only { OnlyFileOrMemory result }
     ensures time { D.moment disk.new ≡ D.moment disk.old }
     ensures cause { LogCause (D.faults disk.old) (D.faults disk.new) (D.blamed disk.new) result }
+    ensures named { (other : List ℕ) → IsErrOf result (LogErr.File other) → other ≡ name }
 {
     let at = from + bytes.len() as u64;
     if at == len {
@@ -60,6 +61,7 @@ pub(crate) fn read_file<D: Disk>(
     ensures only { OnlyFileOrMemory result }
     ensures time { D.moment disk.new ≡ D.moment disk.old }
     ensures cause { LogCause (D.faults disk.old) (D.faults disk.new) (D.blamed disk.new) result }
+    ensures named { (other : List ℕ) → IsErrOf result (LogErr.File other) → other ≡ name }
 {
     let Some(len) = told(name, disk.len(name))? else {
         return Ok(None);
@@ -90,6 +92,7 @@ pub fn chunk<D: Disk>(
     ensures same { IsTrue D.tells → D.past disk.new ≡ D.past disk.old }
     ensures time { D.moment disk.new ≡ D.moment disk.old }
     ensures cause { LogCause (D.faults disk.old) (D.faults disk.new) (D.blamed disk.new) result }
+    ensures named { (other : List ℕ) → IsErrOf result (LogErr.File other) → other ≡ name }
 {
     let Some(len) = told(name, disk.len(name))? else {
         return Err(LogErr::Bad(name, from));

@@ -52,6 +52,7 @@ pub(crate) fn repair<D: Disk>(
     ensures only { OnlyFileOrMemory result }
     ensures time { D.moment disk.old ≤ D.moment disk.new }
     ensures cause { LogCause (D.faults disk.old) (D.faults disk.new) (D.blamed disk.new) result }
+    ensures named { (other : List ℕ) → IsErrOf result (LogErr.File other) → other ≡ name }
 {
     told(name, disk.sync(name))?;
     if found.whole == bytes.len() {
