@@ -168,6 +168,7 @@ impl Log {
         requires { IsTrue D.tells → IsLog (D.past disk.old) self.old }
         ensures log { OnOk result (self.new ≡ with_mark true self.old) }
         ensures err { OnErr result ((self.new ≡ self.old) ⊎ (self.new ≡ with_mark true self.old)) }
+        ensures wanted { IsErrOf result LogErr.Memory → self.new ≡ self.old }
         ensures closed { (all : List (List ℕ)) → IsTrue D.tells → reads (D.past disk.old) (file_of self.old) ≡ Some (log_bytes self.old.closed all)
             → HasMarked result self.old.closed true all (reads (D.past disk.new) (file_of self.old)) }
         ensures others { IsTrue D.tells → (other : List ℕ) → other ≢ file_of self.old → reads (D.past disk.new) other ≡ reads (D.past disk.old) other }

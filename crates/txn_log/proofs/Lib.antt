@@ -1,0 +1,9 @@
+pub mod Acts
+pub mod CommitLists
+pub mod CommitsRead
+pub mod Counts
+pub mod FirstItem
+pub mod LogName
+pub mod Making
+pub mod OneLog
+pub mod Opening

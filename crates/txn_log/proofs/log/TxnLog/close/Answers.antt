@@ -1,0 +1,35 @@
+use Rattle.std.proofs.Common.{true, ap, ◌∙◌}
+use Rattle.txn_log.specs.Logs.{LogState, handle}
+use Rattle.txn_log.proofs.Acts.{on_ok, touches_log, handle_file, handle_marked, handle_same, same_moments, close_logs, close_fails, kept_stands, when_synced}
+use Rattle.txn_log.proofs.log.TxnLog.close.Goals as goal
+
+pub returns-clause-wanted : goal.returns-clause-wanted
+returns-clause-wanted g c told is =
+    close_logs c.close.result (g.D.Disk.past c.args.disk.now) (g.D.Disk.past c.close.new.disk) c.self.inside.log c.close.new.self c.args.self.now (c.self.invariant ∙ ap handle c.self.view_is) (c.requires told) is
+    c.close.ensures.wanted (λ all. c.close.ensures.closed all told)
+
+pub returns-clause-stands : goal.returns-clause-stands
+returns-clause-stands g c commits synced told stands =
+    when_synced (g.D.Disk.past c.args.disk.now) (g.D.Disk.past c.close.new.disk) c.self.inside.log c.close.new.self c.args.self.now commits synced (c.self.invariant ∙ ap handle c.self.view_is) stands c.close.result _
+    (on_ok c.close.result (handle_marked c.self.inside.log c.close.new.self c.args.self.now c.self.inside.commits true (c.self.invariant ∙ ap handle c.self.view_is)) c.close.ensures.log)
+    (ap (λ (l : LogState). l.commits) c.self.view_is) (λ all least before. c.close.ensures.stands all least told before)
+
+pub returns-clause-kept : goal.returns-clause-kept
+returns-clause-kept g c commits synced told stands is =
+    kept_stands (g.D.Disk.past c.args.disk.now) (g.D.Disk.past c.close.new.disk) c.self.inside.log c.close.new.self c.args.self.now commits synced (c.self.invariant ∙ ap handle c.self.view_is) stands _
+    (handle_same c.self.inside.log c.close.new.self c.args.self.now c.self.inside.commits (c.self.invariant ∙ ap handle c.self.view_is) (c.close.ensures.wanted is))
+    (ap (λ (l : LogState). l.commits) c.self.view_is) (λ all least before. c.close.ensures.kept all least told before is)
+
+pub returns-clause-left : goal.returns-clause-left
+returns-clause-left g c commits synced told stands =
+    close_fails (g.D.Disk.past c.args.disk.now) (g.D.Disk.past c.close.new.disk) c.self.inside.log c.close.new.self c.args.self.now commits synced (c.self.invariant ∙ ap handle c.self.view_is) stands c.close.result
+    (λ all. c.close.ensures.closed all told)
+
+pub returns-clause-any_moment : goal.returns-clause-any_moment
+returns-clause-any_moment g c commits synced told stands =
+    same_moments (g.D.Disk.past c.args.disk.now) (g.D.Disk.past c.close.new.disk) c.self.inside.log c.close.new.self c.args.self.now commits synced (c.self.invariant ∙ ap handle c.self.view_is) stands
+    (λ all least before. c.close.ensures.any_moment all least told before)
+
+pub returns-clause-touches : goal.returns-clause-touches
+returns-clause-touches g c told =
+    touches_log (g.D.Disk.past c.args.disk.now) (g.D.Disk.past c.close.new.disk) _ (handle_file c.self.inside.log c.args.self.now (c.self.invariant ∙ ap handle c.self.view_is)) (c.close.ensures.touches told)

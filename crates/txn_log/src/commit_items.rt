@@ -1,0 +1,381 @@
+//! Commits as the items of a log.
+
+ghost use Rattle.std.specs.Prelude.{◌≡◌, ◌⊎◌, ◌↔◌, ◌<◌, ◌≤◌, ◌^◌, ℕ, pos, length, map, IsTrue, IfOk, OnOk, IfErr, IsErrOf, None, MatchOption};
+ghost use Rattle.term_core.specs.Tree as trees;
+ghost use Rattle.term_core.specs.Tree.{Trees, depth, no_trees};
+ghost use Rattle.term_core.specs.View.{tree_of, forest_of};
+ghost use Rattle.term_wire.specs.Spelling.{IsText};
+ghost use Rattle.log_items.specs.Items.{IsContent};
+ghost use Rattle.db_model.specs.Ops.{op_tree};
+ghost use Rattle.db_model.specs.View.{operation, commit_record};
+ghost use Rattle.db_model.specs.Commits.{CommitRecord};
+ghost use Rattle.txn_log.specs.Commits as commits;
+
+use db_model::{Commit, Ops, SchemaOps, op_of_term, op_term};
+use disk_logs::LogErr;
+use log_items::{ItemErr, put_item};
+use sqlite_items::Items;
+use std::alloc::{AllocError, Global};
+use std::marker::Model;
+use term_core::{Atom, Term};
+use term_wire::{EncodeErr, WireErr, decode, encode};
+
+/// A whole item of a log whose content is a commit's text.
+#[derive(Drop)]
+pub struct CommitItem {
+    bytes: Vec<u8>,
+}
+
+impl Model for CommitItem {
+    ghost use Rattle.std.specs.Prelude.{List, ℕ};
+    ghost use Rattle.db_model.specs.Commits.{CommitRecord};
+    ghost use Rattle.txn_log.specs.Commits.{IsItemOf};
+
+    ghost Value = { List ℕ };
+
+    ghost view = { λ item. item.bytes.items };
+
+    ghost invariant = { λ item. (commit : CommitRecord) × IsItemOf commit item.bytes.items };
+}
+
+impl CommitItem {
+    /// The item's bytes.
+    pub fn bytes(&self) -> &[u8]
+        ensures value { result.now ≡ self.now }
+        ensures item { (commit : CommitRecord) × commits.IsItemOf commit self.now }
+    {
+        &self.bytes
+    }
+}
+
+/// The item of a commit without schema ops: `{commit,Version,[],Ops}`. It is `TooLong` exactly where its text has more than 2^28
+/// bytes, and its only other refusal is want of memory.
+pub fn encode_commit(alloc: Global, commit: &Commit) -> Result<CommitItem, LogErr>
+    requires logged { commits.IsLogged (commit_record commit.now) }
+    requires levels { depth (commits.commit_tree (commit_record commit.now)) ≤ 128 }
+    ensures item { IfOk result (commits.IsItemOf (commit_record commit.now)) }
+    ensures long { IsErrOf result LogErr.TooLong → 2 ^ 28 < length (commits.commit_text (commit_record commit.now)) }
+    ensures only { IfErr result (λ error. (error ≡ LogErr.TooLong) ⊎ (error ≡ LogErr.Memory)) }
+{
+    let text = commit_text(alloc, commit)?;
+    let mut bytes = Vec::new(alloc);
+    match put_item(&text, &mut bytes) {
+        Ok(()) => Ok(CommitItem { bytes }),
+        Err(ItemErr::Memory) => Err(LogErr::Memory),
+        Err(ItemErr::TooLong) | Err(ItemErr::Bad(_)) => unreachable!(),
+    }
+}
+
+fn commit_text(alloc: Global, commit: &Commit) -> Result<Vec<u8>, LogErr>
+    requires levels { depth (commits.commit_tree (commit_record commit.now)) ≤ 128 }
+    ensures text { IfOk result (λ text. text.items ≡ commits.commit_text (commit_record commit.now)) }
+    ensures spells { OnOk result (IsText (commits.commit_text (commit_record commit.now)) (commits.commit_tree (commit_record commit.now))) }
+    ensures fits { OnOk result (IsContent (commits.commit_text (commit_record commit.now))) }
+    ensures long { IsErrOf result LogErr.TooLong → 2 ^ 28 < length (commits.commit_text (commit_record commit.now)) }
+    ensures only { IfErr result (λ error. (error ≡ LogErr.TooLong) ⊎ (error ≡ LogErr.Memory)) }
+{
+    let term = commit_term(alloc, commit)?;
+    let mut text = Vec::new(alloc);
+    match encode(&term, &mut text) {
+        Ok(()) => Ok(text),
+        Err(EncodeErr::Memory) => Err(LogErr::Memory),
+        Err(EncodeErr::TooLong) => Err(LogErr::TooLong),
+        Err(EncodeErr::TooDeep) => unreachable!(),
+    }
+}
+
+/// `{commit,Version,[],Ops}`
+fn commit_term(alloc: Global, commit: &Commit) -> Result<Term, AllocError>
+    ensures { IfOk result (λ term. tree_of term ≡ commits.commit_tree (commit_record commit.now)) }
+{
+    let mut parts = Items::new(alloc);
+    parts.push(commit_word(alloc)?)?;
+    parts.push(Term::Int(commit.version as i128))?;
+    parts.push(Term::List(Items::new(alloc)))?;
+    parts.push(Term::List(op_terms(alloc, &commit.ops)?))?;
+    Ok(Term::Tuple(parts))
+}
+
+fn commit_word(alloc: Global) -> Result<Term, AllocError>
+    ensures { IfOk result (λ term. tree_of term ≡ commits.commit_word) }
+{
+    match Atom::new(alloc, "commit") {
+        Ok(atom) => Ok(Term::Atom(atom)),
+        Err(_) => Err(AllocError),
+    }
+}
+
+/// The terms of ops, in their order.
+fn op_terms(alloc: Global, ops: &Ops) -> Result<Items<Term>, AllocError>
+    ensures { IfOk result (λ terms. map tree_of terms ≡ map op_tree (map operation ops.now)) }
+{
+    let mut terms = Items::new(alloc);
+    for op in ops.as_slice() {
+        terms.push(op_term(alloc, op)?)?;
+    }
+    Ok(terms)
+}
+
+/// The commit that an item's content is a text of. A content that is no text of a commit, or that of one with schema ops, is none.
+pub fn decode_commit(alloc: Global, item: &[u8]) -> Result<Option<Commit>, AllocError>
+    ensures { IfOk result (λ found. MatchOption found (commits.IsNoCommit item.now) (λ commit. commits.IsCommit item.now (commit_record commit))) }
+{
+    match decode(alloc, item) {
+        Ok(term) => commit_of_term(alloc, &term),
+        Err(error) => without_commit(error),
+    }
+}
+
+/// A content that cannot be read is no text, but want of memory tells nothing.
+fn without_commit(error: WireErr) -> Result<Option<Commit>, AllocError>
+    ensures { IfOk result (λ found. (found ≡ None) × (error ≡ WireErr.Memory → ⊥)) }
+{
+    match error {
+        WireErr::Memory => Err(AllocError),
+        WireErr::Bad(_) | WireErr::Outside(_, _) | WireErr::WideInt(_) | WireErr::TooDeep(_) => {
+            Ok(None)
+        }
+    }
+}
+
+/// The commit that has this term.
+fn commit_of_term(alloc: Global, term: &Term) -> Result<Option<Commit>, AllocError>
+    ensures { IfOk result (λ found. MatchOption found (commits.HasNoCommit (tree_of term.now)) (λ commit. commits.HasCommit (tree_of term.now) (commit_record commit))) }
+{
+    let Some((version, terms)) = fields_of(term) else {
+        return Ok(None);
+    };
+    match ops_of_terms(alloc, terms)? {
+        Some(ops) => Ok(Some(Commit {
+            version,
+            schema_ops: SchemaOps::new(alloc),
+            ops,
+        })),
+        None => Ok(None),
+    }
+}
+
+/// The version and the list of ops of a term `{commit,Version,[],Ops}`.
+fn fields_of(term: &Term) -> Option<(u64, &[Term])>
+    ensures { MatchOption result (commits.HasNoFields (tree_of term.now)) (λ fields. tree_of term.now ≡ commits.commit_shape fields.0 (forest_of fields.1.now)) }
+{
+    let Term::Tuple(parts) = term else {
+        return None;
+    };
+    match parts.as_slice() {
+        [word, version, schema_ops, ops] => fields_of_parts(word, version, schema_ops, ops),
+        _ => None,
+    }
+}
+
+fn fields_of_parts<'a>(
+    word: &Term,
+    version: &Term,
+    schema_ops: &Term,
+    ops: &'a Term,
+) -> Option<(u64, &'a [Term])>
+    ensures { MatchOption result (commits.HasNoFields (commits.tuple_of (tree_of word.now) (tree_of version.now) (tree_of schema_ops.now) (tree_of ops.now))) (λ fields. commits.tuple_of (tree_of word.now) (tree_of version.now) (tree_of schema_ops.now) (tree_of ops.now) ≡ commits.commit_shape fields.0 (forest_of fields.1.now)) }
+{
+    if !is_commit_word(word) || !is_empty_list(schema_ops) {
+        return None;
+    }
+    Some((version_of(version)?, elements_of(ops)?))
+}
+
+fn is_commit_word(term: &Term) -> bool
+    ensures { IsTrue result ↔ (tree_of term.now ≡ commits.commit_word) }
+{
+    match term {
+        Term::Atom(atom) => atom.text() == "commit",
+        Term::Int(_) | Term::Tuple(_) | Term::List(_) | Term::Bin(_) => false,
+    }
+}
+
+fn is_empty_list(term: &Term) -> bool
+    ensures { IsTrue result ↔ (tree_of term.now ≡ trees.list no_trees) }
+{
+    match term {
+        Term::List(elements) => elements.is_empty(),
+        Term::Int(_) | Term::Atom(_) | Term::Tuple(_) | Term::Bin(_) => false,
+    }
+}
+
+/// The number of a term, where it has 64 bits and no sign.
+fn version_of(term: &Term) -> Option<u64>
+    ensures { MatchOption result ((version : ℕ) → version < 2 ^ 64 → tree_of term.now ≡ trees.int (pos version) → ⊥) (λ version. tree_of term.now ≡ trees.int (pos version)) }
+{
+    match term {
+        Term::Int(number) => u64::try_from(*number).ok(),
+        Term::Atom(_) | Term::Tuple(_) | Term::List(_) | Term::Bin(_) => None,
+    }
+}
+
+fn elements_of(term: &Term) -> Option<&[Term]>
+    ensures { MatchOption result ((elements : Trees) → tree_of term.now ≡ trees.list elements → ⊥) (λ elements. tree_of term.now ≡ trees.list (forest_of elements.now)) }
+{
+    match term {
+        Term::List(elements) => Some(elements.as_slice()),
+        Term::Int(_) | Term::Atom(_) | Term::Tuple(_) | Term::Bin(_) => None,
+    }
+}
+
+/// The ops that have these terms. It is none where a term is that of no op.
+fn ops_of_terms(alloc: Global, terms: &[Term]) -> Result<Option<Ops>, AllocError>
+    ensures { IfOk result (λ found. MatchOption found (commits.AreNoOps (map tree_of terms.now)) (λ ops. commits.AreOps (map tree_of terms.now) (map operation ops))) }
+{
+    let mut ops = Ops::new(alloc);
+    for term in terms {
+        let Some(op) = op_of_term(alloc, term)? else {
+            return Ok(None);
+        };
+        ops.push(op)?;
+    }
+    Ok(Some(ops))
+}
+
+#[cfg(test)]
+mod tests {
+    use super::*;
+    use crate::{commit_law, item_law};
+    use std::test::Fail;
+
+    // {commit,0,[],[{write,t,{t,1,a}}]}
+    const COMMIT: [u8; 42] = [
+        131, 104, 4, 119, 6, 99, 111, 109, 109, 105, 116, 97, 0, 106, 108, 0, 0, 0, 1, 104, 3, 119,
+        5, 119, 114, 105, 116, 101, 119, 1, 116, 104, 3, 119, 1, 116, 97, 1, 119, 1, 97, 106,
+    ];
+
+    #[test]
+    fn a_commit_there_and_back(rt: HostRuntime) -> Result<(), Fail> {
+        let found = decode_commit(rt.alloc(), &COMMIT)?;
+        assert!(rt; found.is_some());
+        if let Some(commit) = found {
+            let Ok(item) = encode_commit(rt.alloc(), &commit) else {
+                return Err(Fail::new("no item"));
+            };
+            assert!(rt; item.bytes().starts_with(&[0, 0, 0, 42, 12, 44, 55, 66]));
+            assert!(rt; item.bytes().ends_with(&COMMIT));
+            assert_eq!(rt; item.bytes().len(), 50);
+        }
+        commit_law();
+        item_law();
+        Ok(())
+    }
+
+    // {commit,Rest..} with so many elements
+    fn content(alloc: Global, size: u8, rest: &[u8]) -> Result<Vec<u8>, AllocError> {
+        let mut content = vec![in alloc; 131, 104, size, 119, 6, 99, 111, 109, 109, 105, 116]?;
+        content.extend_from_slice(rest)?;
+        Ok(content)
+    }
+
+    // How many elements, and what is behind the first.
+    type Rest = (u8, &'static [u8]);
+
+    // Commits, and their versions and how many ops they have.
+    const COMMITS: [(Rest, u64, usize); 6] = [
+        ((4, &[97, 0, 106, 106]), 0, 0),
+        ((4, &[98, 0, 0, 0, 7, 106, 106]), 7, 0),
+        (
+            (
+                4,
+                &[110, 8, 0, 255, 255, 255, 255, 255, 255, 255, 255, 106, 106],
+            ),
+            u64::MAX,
+            0,
+        ),
+        // [{clear,t}]
+        (
+            (
+                4,
+                &[
+                    97, 1, 106, 108, 0, 0, 0, 1, 104, 2, 119, 5, 99, 108, 101, 97, 114, 119, 1,
+                    116, 106,
+                ],
+            ),
+            1,
+            1,
+        ),
+        // [{delete,t,a},{clear,t}]
+        (
+            (
+                4,
+                &[
+                    97, 255, 106, 108, 0, 0, 0, 2, 104, 3, 119, 6, 100, 101, 108, 101, 116, 101,
+                    119, 1, 116, 119, 1, 97, 104, 2, 119, 5, 99, 108, 101, 97, 114, 119, 1, 116,
+                    106,
+                ],
+            ),
+            255,
+            2,
+        ),
+        // an empty list in another spelling
+        ((4, &[97, 1, 106, 108, 0, 0, 0, 0, 106]), 1, 0),
+    ];
+
+    #[test]
+    fn contents_that_are_commits(rt: HostRuntime) -> Result<(), Fail> {
+        for ((size, rest), version, ops) in COMMITS {
+            let content = content(rt.alloc(), size, rest)?;
+            let found = decode_commit(rt.alloc(), &content)?;
+            assert!(rt;
+                found.is_some_and(|commit| commit.version == version && commit.ops.len() == ops),
+                "{content:?}"
+            );
+        }
+        Ok(())
+    }
+
+    // What is no commit.
+    const NO_COMMITS: [Rest; 9] = [
+        // 2^64, and -1
+        (4, &[110, 9, 0, 0, 0, 0, 0, 0, 0, 0, 0, 1, 106, 106]),
+        (4, &[98, 255, 255, 255, 255, 106, 106]),
+        // three elements, and five
+        (3, &[97, 0, 106]),
+        (5, &[97, 0, 106, 106, 106]),
+        // [{clear,schema}]
+        (
+            4,
+            &[
+                97, 0, 106, 108, 0, 0, 0, 1, 104, 2, 119, 5, 99, 108, 101, 97, 114, 119, 6, 115,
+                99, 104, 101, 109, 97, 106,
+            ],
+        ),
+        // [{clear,t},a]
+        (
+            4,
+            &[
+                97, 0, 106, 108, 0, 0, 0, 2, 104, 2, 119, 5, 99, 108, 101, 97, 114, 119, 1, 116,
+                119, 1, 97, 106,
+            ],
+        ),
+        // a schema op
+        (
+            4,
+            &[
+                97, 0, 108, 0, 0, 0, 1, 104, 2, 119, 5, 99, 108, 101, 97, 114, 119, 1, 116, 106,
+                106,
+            ],
+        ),
+        // an atom for the version, and one for the list of ops
+        (4, &[119, 1, 97, 106, 106]),
+        (4, &[97, 0, 106, 119, 1, 97]),
+    ];
+
+    #[test]
+    fn contents_that_are_no_commits(rt: HostRuntime) -> Result<(), Fail> {
+        for (size, rest) in NO_COMMITS {
+            let content = content(rt.alloc(), size, rest)?;
+            assert!(rt;
+                decode_commit(rt.alloc(), &content)?.is_none(),
+                "{content:?}"
+            );
+        }
+        let mut another_word = COMMIT;
+        another_word[10] = 115;
+        assert!(rt; decode_commit(rt.alloc(), &another_word)?.is_none());
+        assert!(rt; decode_commit(rt.alloc(), &COMMIT[1..])?.is_none());
+        Ok(())
+    }
+}

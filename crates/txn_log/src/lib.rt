@@ -1,0 +1,17 @@
+//! The log of the commits: `LATEST.LOG`, a log file whose items are a head and one commit each.
+#![tactic(auto)]
+
+mod commit_items;
+mod counting;
+mod heads;
+mod laws;
+mod log;
+mod names;
+
+pub use commit_items::{CommitItem, decode_commit, encode_commit};
+pub use laws::{commit_law, item_law, log_law};
+pub use log::TxnLog;
+pub use names::latest;
+
+#[cfg(test)]
+mod tests;

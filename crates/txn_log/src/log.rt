@@ -1,0 +1,204 @@
+//! The log of the commits over a disk.
+
+ghost use Rattle.std.specs.Prelude.{◌≡◌, ◌⊎◌, ◌+◌, ◌-◌, ◌<◌, ◌≤◌, ◌^◌, ◌++◌, ◌∷◌, [], ℕ, List, true, length, IsTrue, IfOk, IsErrOf, OnOk, OnErr};
+ghost use Rattle.file_trait.specs.Calls.{IsAbsent};
+ghost use Rattle.file_trait.specs.DiskModel.{reads, IsSettled};
+ghost use Rattle.file_trait.specs.Moments.{Moments};
+ghost use Rattle.file_trait.specs.Touched.{Touches};
+ghost use Rattle.disk_logs.specs.Errors.{OnlyFile, OnlyFileOrMemory, LogCause};
+ghost use Rattle.disk_logs.specs.Logs.{IsLog, opened};
+ghost use Rattle.db_model.specs.Commits.{CommitRecord};
+ghost use Rattle.txn_log.specs.Commits.{IsItemOf};
+ghost use Rattle.txn_log.specs.Opens.{IsItemsFile, Opens};
+ghost use Rattle.txn_log.specs.Logs.{latest as latest_name, handle, Reads, IsWrong, TxnStands, Leaves, OldOrCommits, IsLogName};
+
+use crate::commit_items::CommitItem;
+use crate::counting::counted;
+use crate::heads::HEAD_TEXT;
+use crate::names::latest;
+use disk_logs::{Log, LogErr, check};
+use file_trait::Disk;
+use std::alloc::Global;
+use std::marker::Model;
+
+/// The log of the commits. It is published, and open while it grows.
+#[derive(Drop)]
+pub struct TxnLog {
+    log: Log,
+    commits: u64,
+}
+
+impl Model for TxnLog {
+    ghost use Rattle.std.specs.Prelude.{◌≡◌};
+    ghost use Rattle.txn_log.specs.Logs.{LogState, handle};
+
+    ghost Value = { LogState };
+
+    ghost view = { λ l. record { commits = l.commits; closed = l.log.closed } };
+
+    ghost invariant = { λ l. l.log ≡ handle (record { commits = l.commits; closed = l.log.closed }) };
+}
+
+impl TxnLog {
+    /// Opens `LATEST.LOG`. Where there is none, one without commits is published. It is `Bad` exactly where the file is no log of
+    /// commits, at its first wrong place, and then nothing is done to the disk. Else it is made durable, an incomplete last item is
+    /// cut off, and it is marked open.
+    pub fn open_latest<D: Disk>(alloc: Global, disk: &mut D) -> Result<TxnLog, LogErr>
+        ensures few { IfOk result (λ log. log.commits < 2 ^ 63) }
+        ensures log { IsTrue D.tells → IfOk result (λ log. IsLog (D.past disk.new) (handle log)) }
+
+        // The commits are those that the file had.
+        ensures opened { (commits : List CommitRecord) → IsTrue D.tells → Reads commits (reads (D.past disk.old) latest_name)
+            → IfOk result (λ log. (log.commits ≡ length commits) × Reads commits (reads (D.past disk.new) latest_name)) }
+        ensures kept { (commits : List CommitRecord) → IsTrue D.tells → Reads commits (reads (D.past disk.old) latest_name)
+            → OnErr result (Reads commits (reads (D.past disk.new) latest_name)) }
+
+        // At Ok all of them are synced. At each moment a crash leaves what it could leave before, or exactly these commits.
+        ensures stands { (commits : List CommitRecord) → IsTrue D.tells → Reads commits (reads (D.past disk.old) latest_name) → IsSettled (D.past disk.old) latest_name
+            → IfOk result (λ log. TxnStands (D.past disk.new) log commits (length commits)) }
+        ensures any_moment { (commits : List CommitRecord) → IsTrue D.tells → Reads commits (reads (D.past disk.old) latest_name) → IsSettled (D.past disk.old) latest_name
+            → Moments (OldOrCommits (D.past disk.old) commits) (D.past disk.old) (D.past disk.new) }
+
+        ensures bad { IsTrue D.tells → (name : List ℕ) (at : ℕ) → IsErrOf result (LogErr.Bad name at) → (name ≡ latest_name) × IsWrong at (reads (D.past disk.old) latest_name) }
+        ensures wrong { IsTrue D.tells → (at : ℕ) → IsWrong at (reads (D.past disk.old) latest_name) → IfOk result (λ log. ⊥) }
+        ensures refused { IsTrue D.tells → (name : List ℕ) (at : ℕ) → IsErrOf result (LogErr.Bad name at) → D.past disk.new ≡ D.past disk.old }
+        ensures touches { IsTrue D.tells → Touches IsLogName (D.past disk.old) (D.past disk.new) }
+        ensures named { (name : List ℕ) → IsErrOf result (LogErr.File name) → IsLogName name }
+        ensures never { IsErrOf result LogErr.TooLong → ⊥ }
+        ensures time { D.moment disk.old ≤ D.moment disk.new }
+        ensures cause { LogCause (D.faults disk.old) (D.faults disk.new) (D.blamed disk.new) result }
+    {
+        match check(alloc, disk, latest()) {
+            Ok(true) => resumed(alloc, disk),
+            Ok(false) => made(alloc, disk),
+            Err(error) => Err(error),
+        }
+    }
+
+    /// Puts a commit behind those of the log. A log that is closed is marked open first.
+    pub fn append<D: Disk>(&mut self, disk: &mut D, item: &CommitItem) -> Result<(), LogErr>
+        requires log { IsTrue D.tells → IsLog (D.past disk.old) (handle self.old) }
+        requires few { self.old.commits < 2 ^ 64 - 1 }
+        ensures log { IsTrue D.tells → OnOk result (IsLog (D.past disk.new) (handle self.new)) }
+        ensures wanted { IsTrue D.tells → IsErrOf result LogErr.Memory → IsLog (D.past disk.new) (handle self.new) }
+        ensures ok { OnOk result (self.new.commits ≡ self.old.commits + 1) }
+        ensures err { OnErr result (self.new.commits ≡ self.old.commits) }
+
+        // At Ok the commit stands behind the old ones. Where memory was wanting all is as before, and where the disk failed the
+        // log has the old commits, or these and the new one.
+        ensures stands { (commits : List CommitRecord) (synced : ℕ) (commit : CommitRecord) → IsTrue D.tells → IsItemOf commit item.now → TxnStands (D.past disk.old) self.old commits synced
+            → OnOk result (TxnStands (D.past disk.new) self.new (commits ++ commit ∷ []) synced) }
+        ensures kept { (commits : List CommitRecord) (synced : ℕ) → IsTrue D.tells → TxnStands (D.past disk.old) self.old commits synced
+            → IsErrOf result LogErr.Memory → TxnStands (D.past disk.new) self.new commits synced }
+        ensures left { (commits : List CommitRecord) (synced : ℕ) (commit : CommitRecord) → IsTrue D.tells → IsItemOf commit item.now → TxnStands (D.past disk.old) self.old commits synced
+            → OnErr result (Reads commits (reads (D.past disk.new) latest_name) ⊎ Reads (commits ++ commit ∷ []) (reads (D.past disk.new) latest_name)) }
+
+        // At each moment a crash leaves the first ones of the old commits and the new, and at least those that were synced.
+        ensures any_moment { (commits : List CommitRecord) (synced : ℕ) (commit : CommitRecord) → IsTrue D.tells → IsItemOf commit item.now → TxnStands (D.past disk.old) self.old commits synced
+            → Moments (Leaves (commits ++ commit ∷ []) synced) (D.past disk.old) (D.past disk.new) }
+        ensures touches { IsTrue D.tells → Touches IsLogName (D.past disk.old) (D.past disk.new) }
+        ensures named { (name : List ℕ) → IsErrOf result (LogErr.File name) → name ≡ latest_name }
+        ensures only { OnlyFileOrMemory result }
+        ensures time { D.moment disk.old ≤ D.moment disk.new }
+        ensures cause { LogCause (D.faults disk.old) (D.faults disk.new) (D.blamed disk.new) result }
+    {
+        match self.log.append(disk, item.bytes()) {
+            Ok(()) => {}
+            Err(error) => return Err(error),
+        }
+        self.commits += 1;
+        Ok(())
+    }
+
+    /// Makes all commits durable. It takes no memory.
+    pub fn sync<D: Disk>(&mut self, disk: &mut D) -> Result<(), LogErr>
+        requires { IsTrue D.tells → IsLog (D.past disk.old) (handle self.old) }
+        ensures same { self.new ≡ self.old }
+        ensures log { IsTrue D.tells → IsLog (D.past disk.new) (handle self.new) }
+        ensures stands { (commits : List CommitRecord) (synced : ℕ) → IsTrue D.tells → TxnStands (D.past disk.old) self.old commits synced
+            → OnOk result (TxnStands (D.past disk.new) self.new commits (length commits)) }
+        ensures left { (commits : List CommitRecord) (synced : ℕ) → IsTrue D.tells → TxnStands (D.past disk.old) self.old commits synced
+            → OnErr result (Reads commits (reads (D.past disk.new) latest_name)) }
+        ensures any_moment { (commits : List CommitRecord) (synced : ℕ) → IsTrue D.tells → TxnStands (D.past disk.old) self.old commits synced
+            → Moments (Leaves commits synced) (D.past disk.old) (D.past disk.new) }
+        ensures touches { IsTrue D.tells → Touches IsLogName (D.past disk.old) (D.past disk.new) }
+        ensures named { (name : List ℕ) → IsErrOf result (LogErr.File name) → name ≡ latest_name }
+        ensures only { OnlyFile result }
+        ensures time { D.moment disk.old ≤ D.moment disk.new }
+        ensures cause { LogCause (D.faults disk.old) (D.faults disk.new) (D.blamed disk.new) result }
+    {
+        self.log.sync(disk)
+    }
+
+    /// Marks the log closed and makes it durable.
+    pub fn close<D: Disk>(&mut self, disk: &mut D) -> Result<(), LogErr>
+        requires { IsTrue D.tells → IsLog (D.past disk.old) (handle self.old) }
+        ensures wanted { IsTrue D.tells → IsErrOf result LogErr.Memory → IsLog (D.past disk.new) (handle self.new) }
+        ensures commits { self.new.commits ≡ self.old.commits }
+        ensures closed { OnOk result (self.new.closed ≡ true) }
+        ensures stands { (commits : List CommitRecord) (synced : ℕ) → IsTrue D.tells → TxnStands (D.past disk.old) self.old commits synced
+            → OnOk result (TxnStands (D.past disk.new) self.new commits (length commits)) }
+        ensures kept { (commits : List CommitRecord) (synced : ℕ) → IsTrue D.tells → TxnStands (D.past disk.old) self.old commits synced
+            → IsErrOf result LogErr.Memory → TxnStands (D.past disk.new) self.new commits synced }
+        ensures left { (commits : List CommitRecord) (synced : ℕ) → IsTrue D.tells → TxnStands (D.past disk.old) self.old commits synced
+            → OnErr result (Reads commits (reads (D.past disk.new) latest_name)) }
+        ensures any_moment { (commits : List CommitRecord) (synced : ℕ) → IsTrue D.tells → TxnStands (D.past disk.old) self.old commits synced
+            → Moments (Leaves commits synced) (D.past disk.old) (D.past disk.new) }
+        ensures touches { IsTrue D.tells → Touches IsLogName (D.past disk.old) (D.past disk.new) }
+        ensures named { (name : List ℕ) → IsErrOf result (LogErr.File name) → name ≡ latest_name }
+        ensures only { OnlyFileOrMemory result }
+        ensures time { D.moment disk.old ≤ D.moment disk.new }
+        ensures cause { LogCause (D.faults disk.old) (D.faults disk.new) (D.blamed disk.new) result }
+    {
+        self.log.close(disk)
+    }
+
+    /// How many commits the log has.
+    pub fn commits(&self) -> u64
+        ensures { result ≡ self.now.commits }
+    {
+        self.commits
+    }
+}
+
+// Opens the log that is there.
+fn resumed<D: Disk>(alloc: Global, disk: &mut D) -> Result<TxnLog, LogErr>
+    requires { IsTrue D.tells → IsItemsFile (reads (D.past disk.old) latest_name) }
+    ensures few { IfOk result (λ log. log.commits < 2 ^ 63) }
+    ensures opens { IsTrue D.tells → Opens (D.past disk.old) (D.past disk.new) result }
+    ensures named { (name : List ℕ) → IsErrOf result (LogErr.File name) → IsLogName name }
+    ensures never { IsErrOf result LogErr.TooLong → ⊥ }
+    ensures time { D.moment disk.old ≤ D.moment disk.new }
+    ensures cause { LogCause (D.faults disk.old) (D.faults disk.new) (D.blamed disk.new) result }
+{
+    let commits = match counted(alloc, disk) {
+        Ok(commits) => commits,
+        Err(error) => return Err(error),
+    };
+    match Log::resume(alloc, disk, latest()) {
+        Ok(Some(log)) => Ok(TxnLog { log, commits }),
+        // It was there before.
+        Ok(None) => Err(LogErr::Bad(latest(), 0)),
+        Err(error) => Err(error),
+    }
+}
+
+// Publishes a log without commits.
+fn made<D: Disk>(alloc: Global, disk: &mut D) -> Result<TxnLog, LogErr>
+    requires { IsTrue D.tells → IsAbsent (D.past disk.old) latest_name }
+    ensures few { IfOk result (λ log. log.commits < 2 ^ 63) }
+    ensures opens { IsTrue D.tells → Opens (D.past disk.old) (D.past disk.new) result }
+    ensures named { (name : List ℕ) → IsErrOf result (LogErr.File name) → IsLogName name }
+    ensures never { IsErrOf result LogErr.TooLong → ⊥ }
+    ensures time { D.moment disk.old ≤ D.moment disk.new }
+    ensures cause { LogCause (D.faults disk.old) (D.faults disk.new) (D.blamed disk.new) result }
+{
+    let mut log = match Log::draft(alloc, disk, latest(), &HEAD_TEXT) {
+        Ok(log) => log,
+        Err(error) => return Err(error),
+    };
+    match log.publish(disk) {
+        Ok(()) => Ok(TxnLog { log, commits: 0 }),
+        Err(error) => Err(error),
+    }
+}

@@ -1,0 +1,86 @@
+//! Tests of the log, over a disk in memory.
+
+use crate::{CommitItem, TxnLog, encode_commit, latest};
+use db_model::{Commit, Ops, SchemaOps};
+use disk_logs::LogErr;
+use file_mem::MemDisk;
+use std::alloc::{AllocError, Global};
+use std::test::Fail;
+
+/// The item of a commit without ops.
+fn item(alloc: Global, version: u64) -> Result<CommitItem, LogErr> {
+    let commit = Commit {
+        version,
+        schema_ops: SchemaOps::new(alloc),
+        ops: Ops::new(alloc),
+    };
+    encode_commit(alloc, &commit)
+}
+
+#[test]
+fn commits_are_found_again(rt: HostRuntime) -> Result<(), Fail> {
+    let mut disk = MemDisk::new(rt.alloc());
+    let mut log = TxnLog::open_latest(rt.alloc(), &mut disk)?;
+    assert_eq!(rt; log.commits(), 0);
+    let one = item(rt.alloc(), 1)?;
+    log.append(&mut disk, &one)?;
+    log.append(&mut disk, &one)?;
+    assert_eq!(rt; log.commits(), 2);
+    log.close(&mut disk)?;
+    let again = TxnLog::open_latest(rt.alloc(), &mut disk)?;
+    assert_eq!(rt; again.commits(), 2);
+    Ok(())
+}
+
+#[test]
+fn a_failed_append_leaves_the_old_commits(rt: HostRuntime) -> Result<(), Fail> {
+    let mut disk = MemDisk::new(rt.alloc());
+    let mut log = TxnLog::open_latest(rt.alloc(), &mut disk)?;
+    let one = item(rt.alloc(), 1)?;
+    log.append(&mut disk, &one)?;
+    log.sync(&mut disk)?;
+    disk.fail_at(disk.calls().saturating_add(1), 5)?;
+    match log.append(&mut disk, &one) {
+        Err(LogErr::File(_)) => {}
+        _ => assert!(rt; false),
+    }
+    let again = TxnLog::open_latest(rt.alloc(), &mut disk)?;
+    assert_eq!(rt; again.commits(), 1);
+    Ok(())
+}
+
+const CLOSED: [u8; 8] = [1, 2, 3, 4, 99, 88, 77, 11];
+
+const HEAD_ITEM: [u8; 17] = [
+    0, 0, 0, 9, 12, 44, 55, 66, 131, 104, 1, 119, 4, 108, 111, 103, 49,
+];
+
+const OTHER_ITEM: [u8; 11] = [0, 0, 0, 3, 12, 44, 55, 66, 111, 110, 101];
+
+// A disk with a closed log of these two items.
+fn disk_with(alloc: Global, first: &[u8], second: &[u8]) -> Result<MemDisk, AllocError> {
+    let mut bytes = Vec::from_slice(alloc, &CLOSED)?;
+    bytes.extend_from_slice(first)?;
+    bytes.extend_from_slice(second)?;
+    let mut disk = MemDisk::new(alloc);
+    disk.put_file(latest(), &bytes)?;
+    Ok(disk)
+}
+
+#[test]
+fn a_log_is_bad_at_its_first_wrong_place(rt: HostRuntime) -> Result<(), Fail> {
+    let table: [(&[u8], &[u8], u64); 4] = [
+        (&HEAD_ITEM, &OTHER_ITEM, 25),
+        (&OTHER_ITEM, &HEAD_ITEM, 8),
+        (&HEAD_ITEM, &OTHER_ITEM[..10], 25),
+        (&[], &[], 8),
+    ];
+    for (first, second, wrong) in table {
+        let mut disk = disk_with(rt.alloc(), first, second)?;
+        match TxnLog::open_latest(rt.alloc(), &mut disk) {
+            Err(LogErr::Bad(_, at)) => assert_eq!(rt; at, wrong),
+            _ => assert!(rt; false),
+        }
+    }
+    Ok(())
+}
