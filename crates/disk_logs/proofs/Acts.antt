@@ -90,6 +90,13 @@ append_moments at bytes items more synced r old mid new log now closed same all 
     (appends_moments now.name items more synced r mid new also (subst (λ c. LogStands mid now.name c items synced) (open_now log now closed marked_now set is) h)
     (subst (λ b. Appended now.name b r mid new) all (subst (λ n. Appended n bytes r mid new) (at_name at now same is) done))))
 
+-- memory was wanting, so that nothing was appended
+pub wanted_moments : (at bytes name : List ℕ) (items : List (List ℕ)) (synced : ℕ) (r : Result Unit DiskErr) (t : Result Unit LogErr) (old mid new : Past) → t ≡ told at r → t ≡ Err LogErr.Memory
+    → Appended at bytes r mid new → Moments (LogLeaves name items synced) old mid → Moments (LogLeaves name items synced) old new
+wanted_moments at bytes name items synced (Ok x) t old mid new told_so wanted done so_far = absurd (cc (told_so, wanted))
+wanted_moments at bytes name items synced (Err Failed) t old mid new told_so wanted done so_far = absurd (cc (told_so, wanted))
+wanted_moments at bytes name items synced (Err Memory) t old mid new told_so wanted same so_far = subst (λ (past : Past). Moments (LogLeaves name items synced) old past) (sym same) so_far
+
 pub append_stands : (at bytes : List ℕ) (items more : List (List ℕ)) (synced : ℕ) (r : Result Unit DiskErr) (t : Result Unit LogErr) (mid new : Past) (log now : Handle) (closed : Bool) → at ≡ file_of now
     → bytes ≡ wire more → AreContents more → now ≡ with_mark closed log → closed ≡ (log.draft && log.closed) → Stands mid now items synced → t ≡ told at r → Appended at bytes r mid new
     → OnOk t (Stands new now (items ++ more) synced)

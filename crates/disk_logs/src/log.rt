@@ -135,6 +135,9 @@ impl Log {
         // At each moment a crash leaves the first ones of the old items and the new, and at least those that were synced.
         ensures any_moment { (all more : List (List ℕ)) (synced : ℕ) → IsTrue D.tells → AreContents more → items.now ≡ wire more
             → Stands (D.past disk.old) self.old all synced → Moments (LogLeaves self.old.name (all ++ more) synced) (D.past disk.old) (D.past disk.new) }
+        // Where memory was wanting it leaves only old ones.
+        ensures only_old { (all : List (List ℕ)) (synced : ℕ) → IsTrue D.tells → Stands (D.past disk.old) self.old all synced
+            → IsErrOf result LogErr.Memory → Moments (LogLeaves self.old.name all synced) (D.past disk.old) (D.past disk.new) }
         ensures only { OnlyFileOrMemory result }
         ensures time { D.moment disk.old ≤ D.moment disk.new }
         ensures cause { LogCause (D.faults disk.old) (D.faults disk.new) (D.blamed disk.new) result }

@@ -33,4 +33,7 @@ put_row line item few (k, v, key, value, k_is, v_is, line_is, item_is) = record 
 pub asked_row : (line : List ℕ) (c : Command) → length line ≤ MOST_LINE → command_at line ≡ Ok (order c) → AsksRow c
 asked_row line (command.Put item) few is = put_row line _ few (command_read line _ is)
 asked_row line (command.Get key) few is = tt
+asked_row line command.SyncLog few is = tt
+asked_row line command.Start few is = tt
+asked_row line command.Stop few is = tt
 asked_row line (command.Badarg at) few is = tt

@@ -1,61 +1,37 @@
 -- A commit says which record it writes.
-use Rattle.std.proofs.Common.{◌≡◌, ℕ, zero, suc, ◌^◌, ◌≤◌, List, [], ◌∷◌, length, Option, Some, None, Result, Ok, Err, refl, sym, ap, subst, ◌∙◌, Bor}
-use Rattle.std.specs.Prelude.{slice_get, MatchOption, IfOk, IsTrue, Bool, ◌↔◌}
-use Rattle.std.specs.Option.{option_map, option_copied}
-use Rattle.term_core.specs.Tree.{Tree, inner, depth}
-use Rattle.term_core.specs.Written.{canon}
+use Rattle.std.proofs.Common.{◌≡◌, ℕ, ◌<◌, ◌≤◌, List, [], ◌∷◌, get_or, length, map, codes, Option, Some, None, Result, Ok, Err, refl, sym, ap, subst, ◌∙◌, arith, Bor}
+use Rattle.std.specs.Prelude.{MatchOption, IfOk, IsTrue, Bool, ◌↔◌}
+use Rattle.term_core.specs.Tree.{Tree, tuple, count, inner}
 use Rattle.term_core.specs.View.{tree_step, tree_of, forest_of}
-use Rattle.term_core.specs.declared.term.Term.{Term, Tuple, List as ListTerm}
+use Rattle.term_core.specs.declared.term.Term.{Term, Tuple}
 use Rattle.term_core.specs.declared.term.Term.TheFolds.{fold-roll-Term}
 use Rattle.term_core.specs.declared.term.Term.TheOpen.{Term-F}
-use Rattle.term_core.specs.declared.term.Term.TheViews.{rolls-Tuple, rolls-List}
+use Rattle.term_core.specs.declared.term.Term.TheViews.{rolls-Tuple}
+use Rattle.term_core.proofs.Forests.{count_forest_of}
 use Rattle.term_wire.specs.Spelling.{IsText}
 use Rattle.term_wire.specs.Decoding.{Refuses}
 use Rattle.term_wire.specs.declared.error.WireErr.{WireErr}
 use Rattle.term_wire.specs.declared.error.WireErr.TheVariants.{Bad, Outside, WideInt, TooDeep, Memory}
 use Rattle.term_wire.proofs.Again.{one_tree}
-use Rattle.mn_run.specs.Commands.{row}
-use Rattle.mn_run.specs.Commits.{IsRow, commit_of, IsCommit, IsNoText, IsNoCommit, WritesNone, log_head, IsHead, tree_at, part}
-
--- ---- elements
-
-get_tree_at : (ts : List Term) (n : ℕ) → tree_at n (forest_of ts) ≡ option_map tree_of (slice_get ts n)
-get_tree_at [] n = refl
-get_tree_at (t ∷ ts) zero = refl
-get_tree_at (t ∷ ts) (suc n) = get_tree_at ts n
-
-found_at : (n : ℕ) (t : Tree) (ts : List Term) (r : Option (Bor Term)) → inner t ≡ forest_of ts → option_copied r ≡ slice_get ts n
-    → MatchOption r (part n t ≡ None) (λ found. part n t ≡ Some (tree_of found.now))
-found_at n t ts None is got = ap (tree_at n) is ∙ get_tree_at ts n ∙ ap (option_map tree_of) (sym got)
-found_at n t ts (Some x) is got = ap (tree_at n) is ∙ get_tree_at ts n ∙ ap (option_map tree_of) (sym got)
-
-pub part_of_tuple : (x : Term) (ts : List Term) (n : ℕ) (r : Option (Bor Term)) → x ≡ Tuple ts → option_copied r ≡ slice_get ts n
-    → MatchOption r (part n (tree_of x) ≡ None) (λ found. part n (tree_of x) ≡ Some (tree_of found.now))
-part_of_tuple x ts n r is got = found_at n (tree_of x) ts r (ap (λ (t : Term). inner (tree_of t)) (is ∙ sym (rolls-Tuple ts)) ∙ ap inner (fold-roll-Term Tree tree_step (Term-F.Tuple ts))) got
-
-pub part_of_list : (x : Term) (ts : List Term) (n : ℕ) (r : Option (Bor Term)) → x ≡ ListTerm ts → option_copied r ≡ slice_get ts n
-    → MatchOption r (part n (tree_of x) ≡ None) (λ found. part n (tree_of x) ≡ Some (tree_of found.now))
-part_of_list x ts n r is got = found_at n (tree_of x) ts r (ap (λ (t : Term). inner (tree_of t)) (is ∙ sym (rolls-List ts)) ∙ ap inner (fold-roll-Term Tree tree_step (Term-F.List ts))) got
+use Rattle.db_model.specs.Commits.{CommitRecord}
+use Rattle.db_model.specs.Ops.{Operation, write}
+use Rattle.db_model.specs.View.{operation, commit_record}
+use Rattle.db_model.specs.declared.commit.Commit.{Commit}
+use Rattle.db_model.specs.declared.op.Op.{Op}
+use Rattle.txn_log.specs.Commits as logged
+use Rattle.txn_log.proofs.CommitsRead.{same_content}
+use Rattle.mn_run.specs.Commits.{IsRow, commit_of, IsCommit, IsNoText, IsNoCommit, HasNoFields, IsWrite, IsNoWrite, Writes, WritesNone, log_head, IsHead}
+use Rattle.mn_run.specs.Shown.{commit_for}
+use Rattle.mn_run.proofs.Written.{write_logged}
 
 -- ---- one record
 
-some_is : {A : Type 0} (x y : A) → Some x ≡ Some y → x ≡ y
-some_is x y h = cc
-
--- no two records have the same commit
-commit_of_injective : (a b : Tree) → commit_of a ≡ commit_of b → a ≡ b
-commit_of_injective a b same = some_is {A = Tree} a b (ap row_in same)
-  where
-    then : Option Tree → ℕ → Option Tree
-    then None n = None
-    then (Some t) n = part n t
-
-    row_in : Tree → Option Tree
-    row_in commit = then (then (part 3 commit) 0) 2
+row_of_commit : (a b : Tree) → commit_of a ≡ commit_of b → a ≡ b
+row_of_commit a b same = cc
 
 -- no content is the commit of two records
 pub same_commit : (content : List ℕ) (a b : Tree) → IsCommit content a → IsCommit content b → a ≡ b
-same_commit content a b x y = commit_of_injective a b (one_tree content (commit_of a) (commit_of b) x y)
+same_commit content a b x y = row_of_commit a b (one_tree content (commit_of a) (commit_of b) x y)
 
 -- ---- what a text is not
 
@@ -74,61 +50,62 @@ refused_result content e (Ok None) only h = λ t text. never_refused e t h.1 (on
 refused_result content e (Ok (Some term)) only h = let none : Some term ≡ None = h.0 in absurd (cc)
 refused_result content e (Err f) only h = tt
 
--- what is read as another tree is not it either
-pub read_result : {E : Type 0} (content : List ℕ) (t : Tree) (r : Result (Option Term) E) → IsText content t
-    → IfOk r (λ found. MatchOption found (WritesNone t) (λ item. IsRow (tree_of item) × (t ≡ commit_of (tree_of item))))
-    → IfOk r (λ found. MatchOption found (IsNoCommit content) (λ item. IsRow (tree_of item) × IsCommit content (tree_of item)))
-read_result content t (Ok None) found none = λ item is text. none item is (one_tree content t (commit_of item) found text)
-read_result content t (Ok (Some item)) found both = (both.0, subst (IsText content) both.1 found)
-read_result content t (Err e) found h = tt
-
--- the same of the first item
+-- what is read is the head, or not
 pub head_result : {E : Type 0} (content : List ℕ) (t : Tree) (r : Result Bool E) → IsText content t → IfOk r (λ same. IsTrue same ↔ (t ≡ log_head)) → IfOk r (λ is. IsTrue is ↔ IsHead content)
 head_result content t (Ok is) found h = (λ yes. subst (IsText content) (h.0 yes) found, λ head. h.1 (one_tree content t log_head found head))
 head_result content t (Err e) found h = tt
 
--- ---- what a commit does not write
+-- ---- the record of a commit
 
--- what the fields of the first write are, where the commit is that of one record
-abbrev pub HasFields : Tree → Option (Tree × Tree) → Type 0
-HasFields commit fields = (key value : Tree) → commit ≡ commit_of (row key value) → fields ≡ Some (key, value)
+tuple_tree : (x : Term) (ts : List Term) → x ≡ Tuple ts → tree_of x ≡ tuple (forest_of ts)
+tuple_tree x ts is = ap tree_of (is ∙ sym (rolls-Tuple ts)) ∙ fold-roll-Term Tree tree_step (Term-F.Tuple ts)
 
-none_with : (commit : Tree) → ((key value : Tree) → depth key ≤ 100 → depth value ≤ 100 → length (canon (row key value)) ≤ 2 ^ 26 → commit ≡ commit_of (row key value) → ⊥) → WritesNone commit
-none_with commit never item is same =
-    never is.key is.value is.key_levels is.value_levels (subst (λ r. length (canon r) ≤ 2 ^ 26) is.is is.short) (same ∙ ap commit_of is.is)
+-- a tuple that has not three elements is no record
+pub not_three : (x : Term) (parts ts : List Term) → x ≡ Tuple parts → ts ≡ parts → (length ts ≡ 3 → ⊥) → HasNoFields (tree_of x)
+not_three x parts ts is same never key value shape =
+    let size : count (forest_of parts) ≡ 3 = ap (λ (t : Tree). count (inner t)) (sym (tuple_tree x parts is) ∙ shape) in
+    let long : length ts ≡ length parts = ap length same in
+    never (omega (arith, size, long, count_forest_of parts))
 
-never_some : (fields : Tree × Tree) → None ≡ Some fields → ⊥
-never_some fields h = absurd (cc)
+one_of : (ops : List Op) (op : Op) → 1 ≤ length ops → length ops < 2 → op ≡ get_or ops 0 op → map operation ops ≡ operation op ∷ []
+one_of [] op least most is = absurd (omega (arith, least))
+one_of (first ∷ []) op least most is = λ i. operation (sym is i) ∷ []
+one_of (first ∷ second ∷ others) op least most is = absurd (omega (arith, most))
 
-pub none_without : (commit : Tree) → HasFields commit None → WritesNone commit
-none_without commit has = none_with commit (λ key value k v short same. never_some (key, value) (has key value same))
+first_op : (a b : Operation) → a ∷ [] ≡ b ∷ [] → a ≡ b
+first_op a b is = cc
 
--- two fields that are these two
-abbrev SameFields : (a b key value : Tree) → Type 0
-SameFields a b key value = ◌≡◌ {A = Option (Tree × Tree)} (Some (a, b)) (Some (key, value))
+-- a commit of version 0 writes what its one op writes
+pub one_op : (commit : Commit) (ops : List Op) (op : Op) (r : Option (Bor Term)) → ops ≡ commit.ops → 1 ≤ length ops → length ops < 2 → op ≡ get_or ops 0 op → commit.version ≡ 0
+    → MatchOption r (IsNoWrite (operation op)) (λ row. IsWrite (operation op) (tree_of row.now))
+    → MatchOption r (WritesNone (commit_record commit)) (λ row. Writes (commit_record commit) (tree_of row.now))
+one_op commit ops op None same least most is version none = λ item writes.
+    none item (writes.0, first_op (operation op) (write (codes "t") item) (sym (ap (map operation) (sym same) ∙ one_of ops op least most is) ∙ writes.2))
+one_op commit ops op (Some row) same least most is version found = (found.0, version, ap (map operation) (sym same) ∙ one_of ops op least most is ∙ (λ i. found.1 i ∷ []))
 
-first_is : (a b key value : Tree) → SameFields a b key value → key ≡ a
-first_is a b key value h = let pair : Tree × Tree = (a, b) in let other : Tree × Tree = (key, value) in sym (ap (λ (f : Tree × Tree). f.0) (some_is pair other h))
+-- ---- the record of a content
 
-second_is : (a b key value : Tree) → SameFields a b key value → value ≡ b
-second_is a b key value h = let pair : Tree × Tree = (a, b) in let other : Tree × Tree = (key, value) in sym (ap (λ (f : Tree × Tree). f.1) (some_is pair other h))
+-- what is found of a content
+abbrev pub Finds : List ℕ → Option Commit → Type 0
+Finds content found = MatchOption found (logged.IsNoCommit content) (λ commit. logged.IsCommit content (commit_record commit))
 
-pub none_by_key : (commit a b : Tree) → HasFields commit (Some (a, b)) → (depth a ≤ 100 → ⊥) → WritesNone commit
-none_by_key commit a b has deep =
-    none_with commit (λ key value k v short same. deep (subst (λ t. depth t ≤ 100) (first_is a b key value (has key value same)) k))
+is_found : (content : List ℕ) (found : Option Commit) (commit : Commit) → found ≡ Some commit → Finds content found → logged.IsCommit content (commit_record commit)
+is_found content found commit is h = subst (Finds content) is h
 
-pub none_by_value : (commit a b : Tree) → HasFields commit (Some (a, b)) → (depth b ≤ 100 → ⊥) → WritesNone commit
-none_by_value commit a b has deep =
-    none_with commit (λ key value k v short same. deep (subst (λ t. depth t ≤ 100) (second_is a b key value (has key value same)) v))
+commit_is : (commit : CommitRecord) (item : Tree) → logged.IsLogged commit → Writes commit item → commit ≡ commit_for item
+commit_is commit item log writes = λ i. record { version = writes.1 i; schema_operations = log.plain i; operations = writes.2 i }
 
--- the record of these two fields
-same_row : (a b key value : Tree) → SameFields a b key value → row key value ≡ row a b
-same_row a b key value h = λ i. row (first_is a b key value h i) (second_is a b key value h i)
+pub row_read : (content : List ℕ) (found : Option Commit) (commit : Commit) (row copy : Term) → found ≡ Some commit → Finds content found → Writes (commit_record commit) (tree_of row) → copy ≡ row
+    → IsRow (tree_of copy) × IsCommit content (tree_of copy)
+row_read content found commit row copy is h writes same =
+    let log = is_found content found commit is h in
+    let text : IsCommit content (tree_of row) = subst (λ c. IsText content (logged.commit_tree c)) (commit_is (commit_record commit) (tree_of row) log.0 writes) log.1 in
+    subst (λ (t : Term). IsRow (tree_of t) × IsCommit content (tree_of t)) (sym same) (writes.0, text)
 
-pub none_by_length : (commit item a b : Tree) → HasFields commit (Some (a, b)) → item ≡ row a b → (length (canon item) ≤ 2 ^ 26 → ⊥) → WritesNone commit
-none_by_length commit item a b has is long =
-    none_with commit (λ key value k v short same. long (subst (λ r. length (canon r) ≤ 2 ^ 26) (same_row a b key value (has key value same) ∙ sym is) short))
+pub none_read : (content : List ℕ) (found : Option Commit) (commit : Commit) → found ≡ Some commit → Finds content found → WritesNone (commit_record commit) → IsNoCommit content
+none_read content found commit is h none item row text =
+    let same : commit_record commit ≡ commit_for item = same_content content (commit_record commit) (commit_for item) (is_found content found commit is h) (write_logged item, text) in
+    none item (row, ap (λ (c : CommitRecord). c.version) same, ap (λ (c : CommitRecord). c.operations) same)
 
-pub none_by_rest : (commit made item a b : Tree) → HasFields commit (Some (a, b)) → item ≡ row a b → made ≡ commit_of item → (made ≡ commit → ⊥) → WritesNone commit
-none_by_rest commit made item a b has is built other =
-    none_with commit (λ key value k v short same. other (built ∙ ap commit_of (is ∙ sym (same_row a b key value (has key value same))) ∙ sym same))
+pub no_commit_read : (content : List ℕ) (found : Option Commit) → found ≡ None → Finds content found → IsNoCommit content
+no_commit_read content found is h item row text = let none : logged.IsNoCommit content = subst (Finds content) is h in none (commit_for item) (write_logged item, text)

@@ -1,17 +1,18 @@
 -- Which lines are commands, and where the others are refused.
-use Rattle.std.proofs.Common.{◌≡◌, ℕ, ◌+◌, ◌-◌, ◌<◌, ◌≤◌, Bool, true, false, cond, eqb, pos, ◌⊎◌, List, [], ◌∷◌, ◌++◌, length, take, Some, Result, Ok, Err, refl, sym, ap, subst, ◌∙◌, append_assoc, append-nil, length-append, arith, inl, inr, codes, lit≤}
+use Rattle.std.proofs.Common.{◌≡◌, ℕ, ◌+◌, ◌-◌, ◌<◌, ◌≤◌, Bool, true, false, cond, pos, ◌⊎◌, List, [], ◌∷◌, ◌++◌, length, take, Some, Result, Ok, Err, refl, sym, ap, subst, ◌∙◌, append_assoc, append-nil, length-append, arith, inl, inr, codes, lit≤}
 use Rattle.std.specs.Bool.{MatchBool}
-use Rattle.std.proofs.lemmas.Bool.{eqb-true, eq-eqb}
+use Rattle.std.proofs.lemmas.Bool.{eq-eqb}
 use Rattle.std.proofs.lemmas.List.{take_at}
 use Rattle.term_core.specs.Tree.{Tree, int}
 use Rattle.term_text.specs.Grammar.{Stops}
 use Rattle.term_text.proofs.Refused.{zero_is}
-use Rattle.mn_run.specs.Orders.{Order, start, put, get, bad, stop}
-use Rattle.mn_run.specs.Commands.{◌>>=◌, text_at, at_end, row, put_at, get_at, field_at, command_at, is_later, ordered, order_of}
+use Rattle.mn_run.specs.Orders.{Order, start, put, get, bad, sync_log, stop}
+use Rattle.mn_run.specs.Orders as orders
+use Rattle.mn_run.specs.Commands.{◌>>=◌, text_at, at_end, row, put_at, get_at, field_at, word_at, begins_with, by_byte, st_at, plain_at, command_at, is_later, ordered, order_of}
 use Rattle.mn_run.specs.Grammar.{IsField, IsCommand, IsFront, IsBeforeField, IsWrongField, IsWrongByte, IsPlace, IsMeant, NoCommand}
 use Rattle.mn_run.proofs.Fields.{stops_at_end, stops_at_comma, stops_at_brace, field_again, field_within, field_placed, field_wrong, field_stays}
 use Rattle.mn_run.proofs.Refusals.{Why, more_due, other_byte, Refusal, at_byte, in_field, bind_ok}
-use Rattle.mn_run.proofs.Readers.{Done, Refuses, IsReader, AtEnd, NoField, end_reader, Behind, behind, Moves, text_reader, BehindField, behind_field, Follows, MovesField, field_reader}
+use Rattle.mn_run.proofs.Readers.{Done, Refuses, IsReader, AtEnd, NoField, end_reader, Behind, behind, Moves, text_reader, BehindField, behind_field, Follows, MovesField, field_reader, Either, AllBegin, either_reader}
 
 -- ---- what stands before a key or a value
 
@@ -121,78 +122,126 @@ command_is_put : (line : List ℕ) (item : Tree) → IsCommand line (put item) �
 command_is_put line item (k, v, key, value, is_key, is_value, parts, same) =
     (k ++ (codes "," ++ (v ++ codes "}")), parts, (k, key, is_key, codes "," ++ (v ++ codes "}"), refl, (v ++ codes "}", refl, (v, value, is_value, codes "}", refl, ([], refl, (refl, ap put (sym same)))))))
 
+-- ---- a word alone
+
+abbrev Word : List ℕ → Order → List ℕ → Order → Type 0
+Word text order = Behind text (AtEnd order)
+
+word_reader : (text : List ℕ) (order : Order) (Before : List ℕ → Type 0) → IsReader (word_at text order) (Word text order) Before
+word_reader text order Before = text_reader text (at_end order) (AtEnd order) NoField Before (λ front none. absurd none) (end_reader order)
+
+abbrev ArtOrOp : List ℕ → Order → Type 0
+ArtOrOp = Either (Word (codes "art") start) (Word (codes "op") stop)
+
+abbrev StLine : List ℕ → Order → Type 0
+StLine = Behind (codes "t") ArtOrOp
+
+abbrev SyncOrSt : List ℕ → Order → Type 0
+SyncOrSt = Either (Word (codes "ync_log") sync_log) StLine
+
+abbrev PlainLine : List ℕ → Order → Type 0
+PlainLine = Behind (codes "s") SyncOrSt
+
+abbrev art_or_op : List ℕ → Result Order ℕ
+art_or_op = by_byte 97 (word_at (codes "art") start) (word_at (codes "op") stop)
+
+abbrev sync_or_st : List ℕ → Result Order ℕ
+sync_or_st = by_byte 121 (word_at (codes "ync_log") sync_log) st_at
+
+art_begins : AllBegin 97 (Word (codes "art") start) true
+art_begins line order h = ap (begins_with 97) h.1
+
+op_begins : AllBegin 97 (Word (codes "op") stop) false
+op_begins line order h = ap (begins_with 97) h.1
+
+sync_begins : AllBegin 121 (Word (codes "ync_log") sync_log) true
+sync_begins line order h = ap (begins_with 121) h.1
+
+st_begins : AllBegin 121 StLine false
+st_begins line order h = ap (begins_with 121) h.1
+
+st_reader : IsReader st_at StLine NoField
+unfolding st_at
+st_reader =
+    text_reader (codes "t") art_or_op ArtOrOp NoField NoField (none_moves (codes "t"))
+    (either_reader 97 (word_at (codes "art") start) (word_at (codes "op") stop) (Word (codes "art") start) (Word (codes "op") stop) NoField art_begins op_begins
+    (word_reader (codes "art") start NoField) (word_reader (codes "op") stop NoField))
+
+plain_reader : IsReader plain_at PlainLine IsBeforeField
+unfolding plain_at
+plain_reader =
+    text_reader (codes "s") sync_or_st SyncOrSt NoField IsBeforeField (λ front none. absurd none)
+    (either_reader 121 (word_at (codes "ync_log") sync_log) st_at (Word (codes "ync_log") sync_log) StLine NoField sync_begins st_begins
+    (word_reader (codes "ync_log") sync_log NoField) st_reader)
+
 -- ---- a command
 
-at_p : (line : List ℕ) → command_at (112 ∷ line) ≡ put_at (112 ∷ line)
-unfolding command_at
-at_p line = refl
+abbrev GetOrPlain : List ℕ → Order → Type 0
+GetOrPlain = Either GetLine PlainLine
 
-at_g : (line : List ℕ) → command_at (103 ∷ line) ≡ get_at (103 ∷ line)
-unfolding command_at
-at_g line = refl
+abbrev CommandLine : List ℕ → Order → Type 0
+CommandLine = Either PutLine GetOrPlain
 
-at_other : (b : ℕ) (line : List ℕ) → eqb b 112 ≡ false → eqb b 103 ≡ false → command_at (b ∷ line) ≡ Err (length (b ∷ line))
+put_begins : AllBegin 112 PutLine true
+put_begins line order h = ap (begins_with 112) h.1
+
+get_begins : AllBegin 103 GetLine true
+get_begins line order h = ap (begins_with 103) h.1
+
+plain_begins : AllBegin 103 PlainLine false
+plain_begins line order h = ap (begins_with 103) h.1
+
+others_begin : AllBegin 112 GetOrPlain false
+others_begin line order (inl h) = ap (begins_with 112) h.1
+others_begin line order (inr h) = ap (begins_with 112) h.1
+
+command_reader : IsReader command_at CommandLine IsBeforeField
 unfolding command_at
-at_other b line p g = rw (p, g) refl
+command_reader =
+    either_reader 112 put_at (by_byte 103 get_at plain_at) PutLine GetOrPlain IsBeforeField put_begins others_begin put_reader
+    (either_reader 103 get_at plain_at GetLine PlainLine IsBeforeField get_begins plain_begins get_reader plain_reader)
+
+-- a text with nothing behind it
+alone : (front text rest behind line : List ℕ) → line ≡ front ++ rest → rest ≡ text ++ behind → behind ≡ [] → line ≡ front ++ text
+alone front text rest behind line parts inner none = parts ∙ ap (λ (x : List ℕ). front ++ x) (inner ∙ ap (λ (x : List ℕ). text ++ x) none ∙ append-nil text)
+
+plain_is_command : (line : List ℕ) (order : Order) → PlainLine line order → IsCommand line order
+plain_is_command line order (rest, parts, inl (end, inner, (none, same))) =
+    subst (λ (x : Order). IsCommand line x) same (alone (codes "s") (codes "ync_log") rest end line parts inner none)
+plain_is_command line order (rest, parts, inr (rest', parts', inl (end, inner, (none, same)))) =
+    subst (λ (x : Order). IsCommand line x) same (alone (codes "st") (codes "art") rest' end line (parts ∙ ap (λ (x : List ℕ). codes "s" ++ x) parts') inner none)
+plain_is_command line order (rest, parts, inr (rest', parts', inr (end, inner, (none, same)))) =
+    subst (λ (x : Order). IsCommand line x) same (alone (codes "st") (codes "op") rest' end line (parts ∙ ap (λ (x : List ℕ). codes "s" ++ x) parts') inner none)
+
+line_is_command : (line : List ℕ) (order : Order) → CommandLine line order → IsCommand line order
+line_is_command line order (inl h) = put_is_command line order h
+line_is_command line order (inr (inl h)) = get_is_command line order h
+line_is_command line order (inr (inr h)) = plain_is_command line order h
+
+command_is_line : (line : List ℕ) (order : Order) → IsCommand line order → CommandLine line order
+command_is_line line (put item) h = inl (command_is_put line item h)
+command_is_line line (get key) h = inr (inl (command_is_get line key h))
+command_is_line line sync_log h = inr (inr (codes "ync_log", h, inl ([], refl, (refl, refl))))
+command_is_line line start h = inr (inr (codes "tart", h, inr (codes "art", refl, inl ([], refl, (refl, refl)))))
+command_is_line line stop h = inr (inr (codes "top", h, inr (codes "op", refl, inr ([], refl, (refl, refl)))))
+command_is_line line (bad at) h = absurd h
+command_is_line line orders.end h = absurd h
 
 pub command_read : (line : List ℕ) (order : Order) → command_at line ≡ Ok order → IsCommand line order
-unfolding command_at
-command_read [] order e = absurd cc
-command_read (b ∷ line) order e = by (eqb b 112) (eqb b 103) e
-  where
-    by : (t u : Bool) → cond t (put_at (b ∷ line)) (cond u (get_at (b ∷ line)) (Err (length (b ∷ line)))) ≡ Ok order → IsCommand (b ∷ line) order
-    by true u e = put_is_command (b ∷ line) order (put_reader.found (b ∷ line) order e)
-    by false true e = get_is_command (b ∷ line) order (get_reader.found (b ∷ line) order e)
-    by false false e = absurd cc
+command_read line order e = line_is_command line order (command_reader.found line order e)
 
 pub command_again : (line : List ℕ) (order : Order) → IsCommand line order → command_at line ≡ Ok order
-command_again line (put item) h =
-    let begins = h.6 in
-    let read = put_reader.again line (put item) (command_is_put line item h) in
-    ap command_at begins ∙ at_p _ ∙ ap put_at (sym begins) ∙ read
-command_again line (get key) h =
-    let begins = h.2 in
-    let read = get_reader.again line (get key) (command_is_get line key h) in
-    ap command_at begins ∙ at_g _ ∙ ap get_at (sym begins) ∙ read
-command_again line start h = absurd h
-command_again line (bad at) h = absurd h
-command_again line stop h = absurd h
-
--- one reader goes on in the other where the first byte is its
-first_stays : (b : ℕ) (line front : List ℕ) (c : ℕ) (after tail : List ℕ) → b ∷ line ≡ front ++ c ∷ after → (read : List ℕ → Result Order ℕ) → ((more : List ℕ) → command_at (b ∷ more) ≡ read (b ∷ more)) → command_at (front ++ c ∷ tail) ≡ read (front ++ c ∷ tail)
-first_stays b line [] c after tail parts read same =
-    let head : c ≡ b = cc in subst (λ (x : ℕ). command_at (x ∷ tail) ≡ read (x ∷ tail)) (sym head) (same tail)
-first_stays b line (d ∷ front) c after tail parts read same =
-    let head : d ≡ b = cc in subst (λ (x : ℕ). command_at (x ∷ (front ++ c ∷ tail)) ≡ read (x ∷ (front ++ c ∷ tail))) (sym head) (same (front ++ c ∷ tail))
+command_again line order h = command_reader.again line order (command_is_line line order h)
 
 abbrev CommandRefused : List ℕ → ℕ → Type 0
 CommandRefused = Refusal (Done IsCommand) IsBeforeField (Refuses command_at)
 
-refusal : (b : ℕ) (line : List ℕ) (left : ℕ) (read : List ℕ → Result Order ℕ) (Line : List ℕ → Order → Type 0) → ((text : List ℕ) (order : Order) → Line text order → IsCommand text order) → ((more : List ℕ) → command_at (b ∷ more) ≡ read (b ∷ more)) → Refusal (Done Line) IsBeforeField (Refuses read) (b ∷ line) left → CommandRefused (b ∷ line) left
-refusal b line left read Line is same (at_byte front rest tail parts counted completes why) = at_byte front rest tail parts counted (completes.0, is (front ++ tail) completes.0 completes.1) (reason why)
-  where
-    reason : Why (Refuses read) front rest → Why (Refuses command_at) front rest
-    reason (more_due none) = more_due none
-    reason (other_byte c after inner refuses) =
-        other_byte c after inner (λ tail. first_stays b line front c after tail (parts ∙ ap (λ (x : List ℕ). front ++ x) inner) read same ∙ refuses tail)
-refusal b line left read Line is same (in_field front rest parts before e) = in_field front rest parts before e
-
-some_get : Done IsCommand (codes "get t " ++ codes "0")
-some_get = (get (int (pos 0)), (codes "0", some_field, refl))
+refusal : (line : List ℕ) (left : ℕ) → Refusal (Done CommandLine) IsBeforeField (Refuses command_at) line left → CommandRefused line left
+refusal line left (at_byte front rest tail parts counted completes why) = at_byte front rest tail parts counted (completes.0, line_is_command (front ++ tail) completes.0 completes.1) why
+refusal line left (in_field front rest parts before e) = in_field front rest parts before e
 
 pub command_refused : (line : List ℕ) (left : ℕ) → command_at line ≡ Err left → CommandRefused line left
-unfolding command_at
-command_refused [] left e = at_byte [] [] (codes "get t " ++ codes "0") refl (cc) some_get (more_due refl)
-command_refused (b ∷ line) left e = by (eqb b 112) (eqb b 103) refl refl e
-  where
-    by : (t u : Bool) → eqb b 112 ≡ t → eqb b 103 ≡ u → cond t (put_at (b ∷ line)) (cond u (get_at (b ∷ line)) (Err (length (b ∷ line)))) ≡ Err left → CommandRefused (b ∷ line) left
-    by true u p g e =
-        let same = eqb-true b 112 p in
-        refusal b line left put_at PutLine put_is_command (λ more. ap (λ (x : ℕ). command_at (x ∷ more)) same ∙ at_p more ∙ ap (λ (x : ℕ). put_at (x ∷ more)) (sym same)) (put_reader.refused (b ∷ line) left e)
-    by false true p g e =
-        let same = eqb-true b 103 g in
-        refusal b line left get_at GetLine get_is_command (λ more. ap (λ (x : ℕ). command_at (x ∷ more)) same ∙ at_g more ∙ ap (λ (x : ℕ). get_at (x ∷ more)) (sym same)) (get_reader.refused (b ∷ line) left e)
-    by false false p g e = at_byte [] (b ∷ line) (codes "get t " ++ codes "0") refl (cc) some_get (other_byte b line refl (λ tail. at_other b tail p g))
+command_refused line left e = refusal line left (command_reader.refused line left e)
 
 refusal_within : (line : List ℕ) (left : ℕ) → CommandRefused line left → left ≤ length line
 refusal_within line left (at_byte front rest tail parts counted completes why) = omega (arith, counted, ap length parts, length-append front rest)
@@ -203,12 +252,17 @@ refused_within line left e = refusal_within line left (command_refused line left
 
 -- ---- the laws
 
-no_command : (order : Order) → command_at [] ≡ Ok order → ⊥
-unfolding command_at
-no_command order e = cc
+no_command : (order : Order) → IsCommand [] order → ⊥
+no_command (put item) h = let begins = h.6 in absurd cc
+no_command (get key) h = let begins = h.2 in absurd cc
+no_command sync_log h = absurd cc
+no_command start h = absurd cc
+no_command stop h = absurd cc
+no_command (bad at) h = h
+no_command orders.end h = h
 
 pub order_again : (line : List ℕ) (order : Order) → IsCommand line order → order_of line ≡ Some order
-order_again [] order h = absurd (no_command order (command_again [] order h))
+order_again [] order h = absurd (no_command order h)
 order_again (b ∷ line) order h = ap (λ (r : Result Order ℕ). Some (ordered (b ∷ line) r)) (command_again (b ∷ line) order h)
 
 more_than_front : (front : List ℕ) (c : ℕ) (after tail : List ℕ) → ((more : List ℕ) → command_at (front ++ c ∷ more) ≡ Err (length (c ∷ more))) → (order : Order) → IsCommand (take (length front + 1) (front ++ c ∷ after) ++ tail) order → ⊥
@@ -248,7 +302,9 @@ command_means line start h = h
 command_means line (put item) h = h
 command_means line (get key) h = h
 command_means line (bad at) h = absurd h
+command_means line sync_log h = h
 command_means line stop h = h
+command_means line orders.end h = absurd h
 
 pub order_means : (line : List ℕ) → IsMeant line (order_of line)
 order_means [] = refl
@@ -268,6 +324,14 @@ order_means (b ∷ line) = by (command_at (b ∷ line)) refl
     by (Err left) e = refused left e (is_later (b ∷ line)) refl
 
 -- ---- keys and values that cannot be read
+
+at_p : (line : List ℕ) → command_at (112 ∷ line) ≡ put_at (112 ∷ line)
+unfolding command_at
+at_p line = refl
+
+at_g : (line : List ℕ) → command_at (103 ∷ line) ≡ get_at (103 ∷ line)
+unfolding command_at
+at_g line = refl
 
 text_again : (text rest : List ℕ) → text_at text (text ++ rest) ≡ Ok rest
 unfolding text_at

@@ -1,8 +1,8 @@
 -- Readers of whole lines, made of one part after the other.
-use Rattle.std.proofs.Common.{◌≡◌, ℕ, Bool, true, false, eqb, List, [], ◌∷◌, ◌++◌, length, Result, Ok, Err, refl, sym, ap, subst, ◌∙◌, append_assoc, arith}
+use Rattle.std.proofs.Common.{◌≡◌, ℕ, Bool, true, false, eqb, ◌⊎◌, List, [], ◌∷◌, ◌++◌, length, Result, Ok, Err, refl, sym, ap, subst, ◌∙◌, append_assoc, arith, inl, inr}
 use Rattle.std.proofs.lemmas.Bool.{eqb-true, eq-eqb, ne_eqb}
 use Rattle.term_core.specs.Tree.{Tree}
-use Rattle.mn_run.specs.Commands.{◌>>=◌, text_at, at_end, field_at}
+use Rattle.mn_run.specs.Commands.{◌>>=◌, text_at, at_end, field_at, begins_with, by_byte}
 use Rattle.term_text.specs.Grammar.{Stops}
 use Rattle.mn_run.specs.Grammar.{IsField}
 use Rattle.mn_run.proofs.Fields.{stops_first, field_read, field_again}
@@ -202,3 +202,63 @@ field_reader {Y} read Line Before Before' reader follows moves some_text some_tr
         by (at_second x e f) =
             let field = field_read line x.0 x.1 e in
             refusal line field.text x.0 x.1 left field.is field.parts field.stops ((reader x.0).refused x.1 left f)
+
+-- ---- one of two, by the first byte
+
+abbrev pub Either : {Y : Type 0} → (List ℕ → Y → Type 0) → (List ℕ → Y → Type 0) → List ℕ → Y → Type 0
+Either Line Other line y = Line line y ⊎ Other line y
+
+-- whether all of these lines begin with the byte, or none
+abbrev pub AllBegin : {Y : Type 0} → ℕ → (List ℕ → Y → Type 0) → Bool → Type 0
+AllBegin {Y} b Line t = (line : List ℕ) (y : Y) → Line line y → begins_with b line ≡ t
+
+first_begins : {Y : Type 0} (b : ℕ) (read other : List ℕ → Result Y ℕ) (line : List ℕ) → begins_with b line ≡ true → by_byte b read other line ≡ read line
+first_begins b read other line e = rw e refl
+
+other_begins : {Y : Type 0} (b : ℕ) (read other : List ℕ → Result Y ℕ) (line : List ℕ) → begins_with b line ≡ false → by_byte b read other line ≡ other line
+other_begins b read other line e = rw e refl
+
+same_begins : (b : ℕ) (front : List ℕ) (c : ℕ) (after tail : List ℕ) → begins_with b (front ++ c ∷ tail) ≡ begins_with b (front ++ c ∷ after)
+same_begins b [] c after tail = refl
+same_begins b (d ∷ front) c after tail = refl
+
+-- one reader goes on in another, which reads alike what begins so
+moved : {Y : Type 0} (from to : List ℕ → Result Y ℕ) (Line Line' : List ℕ → Y → Type 0) (Before : List ℕ → Type 0) (b : ℕ) (t : Bool)
+    → ((text : List ℕ) (y : Y) → Line text y → Line' text y) → ((text : List ℕ) → begins_with b text ≡ t → to text ≡ from text)
+    → (line : List ℕ) (left : ℕ) → begins_with b line ≡ t → Refusal (Done Line) Before (Refuses from) line left → Refusal (Done Line') Before (Refuses to) line left
+moved {Y} from to Line Line' Before b t is same line left e (at_byte front rest tail parts counted completes why) =
+    at_byte front rest tail parts counted (completes.0, is (front ++ tail) completes.0 completes.1) (reason why)
+  where
+    reason : Why (Refuses from) front rest → Why (Refuses to) front rest
+    reason (more_due none) = more_due none
+    reason (other_byte c after inner refuses) =
+        let begins : begins_with b (front ++ c ∷ after) ≡ t = ap (begins_with b) (sym (parts ∙ ap (λ (x : List ℕ). front ++ x) inner)) ∙ e in
+        other_byte c after inner (λ tail. same (front ++ c ∷ tail) (same_begins b front c after tail ∙ begins) ∙ refuses tail)
+moved {Y} from to Line Line' Before b t is same line left e (in_field front rest parts before f) = in_field front rest parts before f
+
+pub either_reader : {Y : Type 0} (b : ℕ) (read other : List ℕ → Result Y ℕ) (Line Other : List ℕ → Y → Type 0) (Before : List ℕ → Type 0) → AllBegin b Line true → AllBegin b Other false
+    → IsReader read Line Before → IsReader other Other Before → IsReader (by_byte b read other) (Either Line Other) Before
+either_reader {Y} b read other Line Other Before begin none_begin first second =
+    record { found = found; again = again; refused = refused; sample = (first.sample.0, (first.sample.1.0, inl first.sample.1.1)) }
+  where
+    found : (line : List ℕ) (y : Y) → by_byte b read other line ≡ Ok y → Either Line Other line y
+    found line y e = by (begins_with b line) refl
+      where
+        by : (t : Bool) → begins_with b line ≡ t → Either Line Other line y
+        by true is = inl (first.found line y (sym (first_begins b read other line is) ∙ e))
+        by false is = inr (second.found line y (sym (other_begins b read other line is) ∙ e))
+
+    again : (line : List ℕ) (y : Y) → Either Line Other line y → by_byte b read other line ≡ Ok y
+    again line y (inl h) = first_begins b read other line (begin line y h) ∙ first.again line y h
+    again line y (inr h) = other_begins b read other line (none_begin line y h) ∙ second.again line y h
+
+    refused : (line : List ℕ) (left : ℕ) → by_byte b read other line ≡ Err left → Refusal (Done (Either Line Other)) Before (Refuses (by_byte b read other)) line left
+    refused line left e = by (begins_with b line) refl
+      where
+        by : (t : Bool) → begins_with b line ≡ t → Refusal (Done (Either Line Other)) Before (Refuses (by_byte b read other)) line left
+        by true is =
+            moved read (by_byte b read other) Line (Either Line Other) Before b true (λ text y h. inl h) (first_begins b read other) line left is
+            (first.refused line left (sym (first_begins b read other line is) ∙ e))
+        by false is =
+            moved other (by_byte b read other) Other (Either Line Other) Before b false (λ text y h. inr h) (other_begins b read other) line left is
+            (second.refused line left (sym (other_begins b read other line is) ∙ e))

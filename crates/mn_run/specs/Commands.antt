@@ -1,12 +1,12 @@
 -- What a line says.
-use Rattle.std.specs.Prelude.{ℕ, ◌-◌, ◌||◌, ◌==◌, if◌then◌else◌, Bool, List, [], ◌∷◌, length, drop, codes, Option, Some, None, Result, Ok, Err}
+use Rattle.std.specs.Prelude.{ℕ, ◌-◌, ◌||◌, ◌==◌, if◌then◌else◌, Bool, false, List, [], ◌∷◌, length, drop, codes, Option, Some, None, Result, Ok, Err}
 use Rattle.std.specs.List.{list_any, prefix_len, before_first}
 use Rattle.std.specs.Str.{bytes_eq}
 use Rattle.term_core.specs.Tree.{Tree, atom, tuple, no_trees, tree}
 use Rattle.term_text.specs.Places.{read}
 use Rattle.term_text.specs.declared.error.TextErr.{TextErr}
 use Rattle.term_text.specs.declared.error.TextErr.TheVariants.{Bad, WideInt, TooDeep, Memory}
-use Rattle.mn_run.specs.Orders.{Order, put, get, bad}
+use Rattle.mn_run.specs.Orders.{Order, start, put, get, bad, sync_log, stop}
 
 infixl 10 ◌>>=◌
 abbrev pub ◌>>=◌ : {A B : Type 0} → Result A ℕ → (A → Result B ℕ) → Result B ℕ
@@ -61,21 +61,46 @@ get_at line = do
   key ← field_at behind_front
   at_end (get key.0) key.1
 
--- a command
+-- this text alone, as this order
+abbrev pub word_at : List ℕ → Order → List ℕ → Result Order ℕ
+word_at text order line = do
+  rest ← text_at text line
+  at_end order rest
+
+abbrev pub begins_with : ℕ → List ℕ → Bool
+begins_with b [] = false
+begins_with b (c ∷ line) = c == b
+
+-- by the first reader where the line begins with this byte, else by the second
+abbrev pub by_byte : {A : Type 0} → ℕ → (List ℕ → Result A ℕ) → (List ℕ → Result A ℕ) → List ℕ → Result A ℕ
+by_byte b read other line = if begins_with b line then read line else other line
+
+-- what is behind the `s` of `start` and `stop`
+unfoldable pub st_at : List ℕ → Result Order ℕ
+st_at line = do
+  behind_t ← text_at (codes "t") line
+  by_byte 97 (word_at (codes "art") start) (word_at (codes "op") stop) behind_t
+
+-- `start`, `stop` or `sync_log`
+unfoldable pub plain_at : List ℕ → Result Order ℕ
+plain_at line = do
+  behind_s ← text_at (codes "s") line
+  by_byte 121 (word_at (codes "ync_log") sync_log) st_at behind_s
+
+-- a command, by its first byte
 unfoldable pub command_at : List ℕ → Result Order ℕ
-command_at [] = Err 0
-command_at (b ∷ line) = if b == 112 then put_at (b ∷ line) else (if b == 103 then get_at (b ∷ line) else Err (length (b ∷ line)))
+command_at = by_byte 112 put_at (by_byte 103 get_at plain_at)
 
 -- the words of commands that are not here yet
 abbrev pub later_words : List (List ℕ)
 later_words =
-    codes "start" ∷ codes "stop" ∷ codes "sync_log" ∷ codes "dump_log" ∷ codes "create_table" ∷ codes "delete_table"
-    ∷ codes "add_table_index" ∷ codes "del_table_index" ∷ codes "transform_table" ∷ codes "tables" ∷ codes "table_info"
-    ∷ codes "begin" ∷ codes "write" ∷ codes "delete" ∷ codes "delete_object" ∷ codes "read" ∷ codes "match_object"
-    ∷ codes "index_read" ∷ codes "all_keys" ∷ codes "commit" ∷ codes "abort" ∷ codes "activate_checkpoint"
-    ∷ codes "deactivate_checkpoint" ∷ codes "checkpoint_read" ∷ codes "checkpoint_keys" ∷ codes "checkpoint_retained"
-    ∷ codes "backup_checkpoint" ∷ codes "traverse_backup" ∷ codes "jobs" ∷ codes "restore" ∷ codes "install_fallback"
-    ∷ codes "uninstall_fallback" ∷ codes "generate" ∷ codes "select" ∷ codes "load_text" ∷ codes "save_text" ∷ []
+    codes "dump_log" ∷ codes "create_table" ∷ codes "delete_table" ∷ codes "add_table_index" ∷ codes "del_table_index"
+    ∷ codes "transform_table" ∷ codes "tables" ∷ codes "table_info" ∷ codes "begin" ∷ codes "write" ∷ codes "delete"
+    ∷ codes "delete_object" ∷ codes "read" ∷ codes "match_object" ∷ codes "index_read" ∷ codes "all_keys"
+    ∷ codes "commit" ∷ codes "abort" ∷ codes "activate_checkpoint" ∷ codes "deactivate_checkpoint"
+    ∷ codes "checkpoint_read" ∷ codes "checkpoint_keys" ∷ codes "checkpoint_retained" ∷ codes "backup_checkpoint"
+    ∷ codes "traverse_backup" ∷ codes "jobs" ∷ codes "restore" ∷ codes "install_fallback" ∷ codes "uninstall_fallback"
+    ∷ codes "generate" ∷ codes "select" ∷ codes "load_text" ∷ codes "save_text" ∷ []
 
 abbrev pub is_blank : ℕ → Bool
 is_blank byte = (byte == 32) || (byte == 9)

@@ -3,6 +3,8 @@ use Rattle.std.specs.Prelude.{◌≡◌, ℕ, zero, suc, ◌^◌, ◌≤◌, pos
 use Rattle.term_core.specs.Tree.{Tree, int, atom, tuple, list, Trees, no_trees, tree, inner, depth}
 use Rattle.term_core.specs.Written.{canon}
 use Rattle.term_wire.specs.Spelling.{IsText}
+use Rattle.db_model.specs.Commits.{CommitRecord}
+use Rattle.db_model.specs.Ops.{Operation, write}
 use Rattle.mn_run.specs.Commands.{row}
 
 -- A record of the table t. Its key and its value nest over at most 100 levels, and the text that is written of it has at most
@@ -30,10 +32,6 @@ commit_of row = tuple (tree (atom (codes "commit")) (tree (int (pos 0)) (tree (l
 abbrev pub IsCommit : List ℕ → Tree → Type 0
 IsCommit content row = IsText content (commit_of row)
 
--- the text that is written of it
-abbrev pub commit_text : Tree → List ℕ
-commit_text row = canon (commit_of row)
-
 -- it is a text of no tree
 abbrev pub IsNoText : List ℕ → Type 0
 IsNoText content = (t : Tree) → IsText content t → ⊥
@@ -42,9 +40,25 @@ IsNoText content = (t : Tree) → IsText content t → ⊥
 abbrev pub IsNoCommit : List ℕ → Type 0
 IsNoCommit content = (row : Tree) → IsRow row → IsCommit content row → ⊥
 
--- it is the tree of no record's commit
-abbrev pub WritesNone : Tree → Type 0
-WritesNone commit = (row : Tree) → IsRow row → commit ≡ commit_of row → ⊥
+-- a term that is no record of the table t, whatever its fields
+abbrev pub HasNoFields : Tree → Type 0
+HasNoFields term = (key value : Tree) → term ≡ row key value → ⊥
+
+-- the op writes this record
+abbrev pub IsWrite : Operation → Tree → Type 0
+IsWrite op item = IsRow item × (op ≡ write (codes "t") item)
+
+-- it writes none
+abbrev pub IsNoWrite : Operation → Type 0
+IsNoWrite op = (item : Tree) → IsWrite op item → ⊥
+
+-- the commit has version 0, and its one op writes this record
+abbrev pub Writes : CommitRecord → Tree → Type 0
+Writes commit item = IsRow item × (commit.version ≡ 0) × (commit.operations ≡ write (codes "t") item ∷ [])
+
+-- it is so of no record
+abbrev pub WritesNone : CommitRecord → Type 0
+WritesNone commit = (item : Tree) → Writes commit item → ⊥
 
 -- the tree at this place, counted from 0
 abbrev pub tree_at : ℕ → Trees → Option Tree

@@ -1,20 +1,18 @@
 -- What a directory of files stands for.
-use Rattle.std.specs.Prelude.{◌≡◌, ◌⊎◌, ℕ, ◌+◌, Bool, true, false, List, [], ◌∷◌, ◌++◌, length, take, codes, Option, None, Some}
+use Rattle.std.specs.Prelude.{◌≡◌, ◌⊎◌, ℕ, ◌+◌, Bool, true, List, [], ◌∷◌, ◌++◌, length, take, Option, None, Some}
 use Rattle.term_core.specs.Tree.{Tree}
-use Rattle.file_trait.specs.DiskModel.{Past, reads}
 use Rattle.log_items.specs.Items.{wire, log_bytes, HasItems, AreContents}
 use Rattle.log_items.specs.Scan.{IsBadAt}
-use Rattle.disk_logs.specs.Logs.{Handle}
 use Rattle.mn_run.specs.Commits.{IsHead, AreItemsOf, AreRows, IsNoCommit}
-use Rattle.mn_run.specs.Machine.{Machine}
-use Rattle.mn_run.specs.Tables.{records_of}
+use Rattle.txn_log.specs.Logs as logs
+use Rattle.mn_run.specs.Machine.{Meaning, writes, broken, Machine, all_of, IsKept}
 
 -- the files of a directory, by their names
 abbrev pub Files : Type 0
 Files = List ℕ → Option (List ℕ)
 
 abbrev pub latest : List ℕ
-latest = codes "LATEST.LOG"
+latest = logs.latest
 
 -- a log with this mark and the commits of these writes
 abbrev pub IsLogOf : Bool → List Tree → Option (List ℕ) → Type 0
@@ -63,31 +61,19 @@ IsWrongLogAt bytes at = (items : List (List ℕ)) × HasItems bytes items × IsW
 abbrev pub NoMeaning : Files → ℕ → Type 0
 NoMeaning files at = (bytes : List ℕ) × (files latest ≡ Some bytes) × (IsBadAt bytes at ⊎ IsWrongLogAt bytes at)
 
--- the log has the commits of these writes, and no log has none
-abbrev pub Keeps : Files → List Tree → Type 0
-Keeps files rows = ((files latest ≡ None) × (rows ≡ [])) ⊎ HasWrites rows (files latest)
+-- the directory has this meaning
+abbrev pub Means : Files → Meaning → Type 0
+Means files (writes base) = Stands files base
+Means files (broken at) = NoMeaning files at
 
--- the log has the commits of these writes, and of one in doubt perhaps
-abbrev pub KeepsUpTo : Files → List Tree → Option Tree → Type 0
-KeepsUpTo files sure None = Keeps files sure
-KeepsUpTo files sure (Some row) = Keeps files sure ⊎ Keeps files (sure ++ row ∷ [])
+-- the directory has the machine's writes, or has no meaning from the machine's place on
+abbrev pub HoldsAt : Option ℕ → Files → Machine → Type 0
+HoldsAt None files machine = (kept : List Tree) × IsKept machine kept × Stands files (machine.base ++ kept)
+HoldsAt (Some at) files machine = NoMeaning files at
 
--- the log has the machine's writes
 abbrev pub Holds : Files → Machine → Type 0
-Holds files machine = KeepsUpTo files (machine.base ++ machine.entries) machine.doubtful
+Holds files machine = HoldsAt machine.damage files machine
 
 -- the log is closed and has the machine's writes
 abbrev pub HoldsClosed : Files → Machine → Type 0
-HoldsClosed files machine = IsLogOf true (machine.base ++ machine.entries) (files latest)
-
--- rows, the log's handle and the disk stand for a machine that is up
-pub record Shows (rows : List Tree) (log : Handle) (past : Past) (machine : Machine) : Type 0 where
-  pub up : machine.up ≡ true
-  pub sure : machine.doubtful ≡ None
-  pub table : (key : Tree) → records_of key rows ≡ records_of key machine.table
-  pub name : log.name ≡ latest
-  pub published : log.draft ≡ false
-  pub items : List (List ℕ)
-  pub commits : AreItemsOf (machine.base ++ machine.entries) items
-  pub small : AreContents items
-  pub file : reads past latest ≡ Some (log_bytes log.closed items)
+HoldsClosed files machine = IsLogOf true (all_of machine) (files latest)

@@ -7,7 +7,7 @@ use Rattle.term_text.specs.Places.{read}
 use Rattle.term_text.specs.Viable.{continues}
 use Rattle.term_text.specs.declared.error.TextErr.{TextErr}
 use Rattle.term_text.specs.declared.error.TextErr.TheVariants.{Bad, WideInt, TooDeep, Memory}
-use Rattle.mn_run.specs.Orders.{Order, put, get, bad}
+use Rattle.mn_run.specs.Orders.{Order, start, put, get, bad, sync_log, stop}
 use Rattle.mn_run.specs.Commands.{row, is_later}
 
 -- the text of a key or a value: a term of at most 100 levels
@@ -20,6 +20,9 @@ IsCommand line (put item) =
     (k v : List ℕ) × (key value : Tree) × IsField k key × IsField v value
     × (line ≡ codes "put t {t," ++ (k ++ (codes "," ++ (v ++ codes "}")))) × (item ≡ row key value)
 IsCommand line (get key) = (k : List ℕ) × IsField k key × (line ≡ codes "get t " ++ k)
+IsCommand line sync_log = line ≡ codes "sync_log"
+IsCommand line start = line ≡ codes "start"
+IsCommand line stop = line ≡ codes "stop"
 IsCommand line other = ⊥
 
 -- how a command may begin

@@ -1,5 +1,6 @@
 pub mod Commands
 pub mod Commits
+pub mod Crash
 pub mod Files
 pub mod Grammar
 pub mod Lines
@@ -11,6 +12,7 @@ pub mod Replies
 pub mod Runs
 pub mod Script
 pub mod Seen
+pub mod Shown
 pub mod Statuses
 pub mod Steps
 pub mod Tables

@@ -1,6 +1,6 @@
 -- What a script orders, by its lines.
 use Rattle.std.specs.Prelude.{ℕ, ◌+◌, ◌||◌, ◌&&◌, nat_le, nat_lt, is_some, if◌then◌else◌, Bool, List, [], ◌∷◌, ◌++◌, length, Option, Some, None}
-use Rattle.mn_run.specs.Orders.{Order, start, stop}
+use Rattle.mn_run.specs.Orders.{Order, start, end}
 use Rattle.mn_run.specs.Commands.{order_of}
 use Rattle.mn_run.specs.Lines.{lines_of}
 use Rattle.mn_run.specs.declared.lines.TheConstants.{MOST_LINE}
@@ -36,11 +36,11 @@ plan_from before done (line ∷ lines) =
 abbrev pub plan_of : List ℕ → Plan
 plan_of script = plan_from 0 0 (lines_of script)
 
--- a stop comes at the script's end alone
+-- the script's end is reached where no line is over a limit
 abbrev pub at_end : Option ℕ → List Order
-at_end None = stop ∷ []
+at_end None = end ∷ []
 at_end (Some line) = []
 
--- what is to be done: a start, the commands, and at the script's end a stop
+-- what is to be done: a start, the commands, and the script's end
 abbrev pub orders_of_plan : Plan → List Order
 orders_of_plan plan = start ∷ plan.commands ++ at_end plan.over

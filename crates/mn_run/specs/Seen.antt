@@ -7,13 +7,16 @@ use Rattle.mn_run.specs.Commits.{IsRow}
 use Rattle.mn_run.specs.declared.commands.PartErr.{PartErr}
 use Rattle.mn_run.specs.declared.commands.PartErr.TheVariants as part
 use Rattle.mn_run.specs.declared.commands.Command.{Command}
-use Rattle.mn_run.specs.declared.commands.Command.TheVariants.{Put, Get, Badarg}
+use Rattle.mn_run.specs.declared.commands.Command.TheVariants.{Put, Get, SyncLog, Start, Stop, Badarg}
 use Rattle.mn_run.specs.declared.replies.Reply.{Reply}
 use Rattle.mn_run.specs.declared.replies.Reply.TheVariants as replies
 
 abbrev pub order : Command → Order
 order (Put item) = orders.put (tree_of item)
 order (Get key) = orders.get (tree_of key)
+order SyncLog = orders.sync_log
+order Start = orders.start
+order Stop = orders.stop
 order (Badarg at) = orders.bad at
 
 abbrev pub answer : Reply → Answer
@@ -21,9 +24,13 @@ answer (replies.Started n) = orders.started n
 answer replies.Done = orders.done
 answer (replies.Found records) = orders.found (map tree_of records)
 answer (replies.Badarg at) = orders.bad_line at
+answer replies.Synced = orders.synced
 answer replies.Stopped = orders.stopped
+answer replies.Down = orders.is_down
+answer replies.Up = orders.is_up
 answer replies.Memory = orders.no_memory
-answer replies.Fault = orders.fault
+answer (replies.Fault name) = orders.fault name
+answer (replies.Damaged name at) = orders.damaged name at
 
 -- What a reader of the code answers is what reading on lists answers, unless memory is wanting.
 abbrev pub Refuses : {Y : Type 0} → PartErr → Result Y ℕ → Type 0
@@ -37,5 +44,4 @@ Gives view (Err e) read = Refuses e read
 -- what is put is a record of the table
 abbrev pub AsksRow : Command → Type 0
 AsksRow (Put item) = IsRow (tree_of item)
-AsksRow (Get key) = Unit {0}
-AsksRow (Badarg at) = Unit {0}
+AsksRow other = Unit {0}

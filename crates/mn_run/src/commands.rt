@@ -22,6 +22,12 @@ pub enum Command {
     /// The whole record, `{t,K,V}`.
     Put(Term),
     Get(Term),
+    /// To make the log durable.
+    SyncLog,
+    /// To start a node that is down.
+    Start,
+    /// To stop the node.
+    Stop,
     /// The line is no command, from this byte on.
     Badarg(u64),
 }
@@ -36,10 +42,7 @@ enum PartErr {
 }
 
 /// The words of commands that are not here yet.
-const LATER: [&[u8]; 36] = [
-    b"start",
-    b"stop",
-    b"sync_log",
+const LATER: [&[u8]; 33] = [
     b"dump_log",
     b"create_table",
     b"delete_table",
@@ -234,6 +237,44 @@ fn read_get(alloc: Global, line: &[u8]) -> Result<Command, PartErr>
     Ok(Command::Get(key))
 }
 
+/// The command whose word is this text, alone on the rest of the line.
+fn read_word(line: &[u8], text: &[u8], command: Command) -> Result<Command, PartErr>
+    ensures part { Gives order result (lines.word_at text.now (order command) line.now) }
+    ensures memory { result ≡ Err PartErr.Memory → ⊥ }
+{
+    let rest = read_text(line, text)?;
+    if !rest.is_empty() {
+        return Err(PartErr::Bad(rest.len()));
+    }
+    Ok(command)
+}
+
+/// What is behind the `s` of `start` and `stop`.
+#[tactic(auto, unfolding(crate::specs::Commands::st_at))]
+fn read_st(line: &[u8]) -> Result<Command, PartErr>
+    ensures part { Gives order result (lines.st_at line.now) }
+    ensures memory { result ≡ Err PartErr.Memory → ⊥ }
+{
+    let rest = read_text(line, b"t")?;
+    match rest.first() {
+        Some(b'a') => read_word(rest, b"art", Command::Start),
+        _ => read_word(rest, b"op", Command::Stop),
+    }
+}
+
+/// `start`, `stop` or `sync_log`, by its second byte.
+#[tactic(auto, unfolding(crate::specs::Commands::plain_at))]
+fn read_plain(line: &[u8]) -> Result<Command, PartErr>
+    ensures part { Gives order result (lines.plain_at line.now) }
+    ensures memory { result ≡ Err PartErr.Memory → ⊥ }
+{
+    let rest = read_text(line, b"s")?;
+    match rest.first() {
+        Some(b'y') => read_word(rest, b"ync_log", Command::SyncLog),
+        _ => read_st(rest),
+    }
+}
+
 /// The command of a line, by its first byte.
 #[tactic(auto, unfolding(crate::specs::Commands::command_at))]
 fn read_line(alloc: Global, line: &[u8]) -> Result<Command, PartErr>
@@ -243,7 +284,7 @@ fn read_line(alloc: Global, line: &[u8]) -> Result<Command, PartErr>
     match line.first() {
         Some(b'p') => read_put(alloc, line),
         Some(b'g') => read_get(alloc, line),
-        _ => Err(PartErr::Bad(line.len())),
+        _ => read_plain(line),
     }
 }
 
@@ -294,14 +335,38 @@ mod tests {
             ("get t 01", Some(7)),
             ("get t -0", Some(7)),
             ("  get t 1", Some(0)),
-            ("startx", Some(0)),
-            ("start", Some(0)),
+            ("start", None),
+            ("stop", None),
+            ("sync_log", None),
+            ("startx", Some(5)),
+            ("start ", Some(5)),
+            ("sta", Some(3)),
+            ("st", Some(2)),
+            ("stx", Some(2)),
+            ("stopp", Some(4)),
+            ("s", Some(1)),
+            ("sx", Some(1)),
+            ("sync_lo", Some(7)),
+            ("sync_logs", Some(8)),
+            ("sync_log sync_log", Some(8)),
+            (" start", Some(0)),
+            ("select", Some(0)),
+            ("selects", Some(1)),
             ("generate", Some(0)),
             ("generated", Some(2)),
         ];
         for (line, place) in lines {
             assert_eq!(rt; refused_at(rt.alloc(), line)?, place, "{line}");
         }
+        Ok(())
+    }
+
+    #[test]
+    fn a_word_alone_gives_its_command(rt: HostRuntime) -> Result<(), Fail> {
+        let alloc = rt.alloc();
+        assert!(rt; matches!(&read_command(alloc, b"start")?, Some(Command::Start)));
+        assert!(rt; matches!(&read_command(alloc, b"stop")?, Some(Command::Stop)));
+        assert!(rt; matches!(&read_command(alloc, b"sync_log")?, Some(Command::SyncLog)));
         Ok(())
     }
 

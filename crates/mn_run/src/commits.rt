@@ -1,29 +1,29 @@
 //! What a write puts into the log, and what such an item says.
 
-ghost use Rattle.std.specs.Prelude.{◌≡◌, ◌↔◌, Ok, IfOk, OnOk, IsTrue, Some, None, MatchOption};
-ghost use Rattle.std.specs.Option.{option_map};
-ghost use Rattle.term_core.specs.Tree.{Tree};
+ghost use Rattle.std.specs.Prelude.{◌≡◌, ◌↔◌, codes, IfOk, IsTrue, None, MatchOption};
+ghost use Rattle.term_core.specs.Tree as trees;
 ghost use Rattle.term_core.specs.View.{tree_of};
 ghost use Rattle.term_wire.specs.Spelling.{IsText};
+ghost use Rattle.db_model.specs.View.{operation, commit_record};
 ghost use Rattle.mn_run.specs.Commands.{row};
-ghost use Rattle.log_items.specs.Items.{item_bytes};
+ghost use Rattle.txn_log.specs.Commits.{IsItemOf};
 ghost use Rattle.mn_run.specs.Commits as commits;
+ghost use Rattle.mn_run.specs.Shown.{commit_for};
 
 use crate::terms::{atom, copied};
-use log_items::{ItemErr, put_item};
+use db_model::{Commit, Op};
+use disk_logs::LogErr;
 use sqlite_items::Items;
 use std::alloc::{AllocError, Global};
-use term_core::{Term, wire_len};
-use term_wire::{EncodeErr, WireErr, decode, encode};
+use term_core::{Atom, Term, wire_len};
+use term_wire::{WireErr, decode};
+use txn_log::{CommitItem, decode_commit, encode_commit};
 
 /// The levels of the deepest key or value.
 const MOST_LEVELS: u32 = 100;
 
 /// The bytes of the longest record's text.
 const MOST_ROW_BYTES: u64 = 1 << 26;
-
-/// The text of the first item of a log, `{log1}`.
-pub const HEAD_TEXT: [u8; 9] = [131, 104, 1, 119, 4, 108, 111, 103, 49];
 
 /// The term that an item's content is a text of, where it is one.
 fn term_of(alloc: Global, content: &[u8]) -> Result<Option<Term>, AllocError>
@@ -66,129 +66,132 @@ fn is_log_head(alloc: Global, term: &Term) -> Result<bool, AllocError>
     Ok(Term::Tuple(parts) == *term)
 }
 
-/// The whole item of the commit that writes this record. Only memory may be wanting.
-#[tactic(auto, using(crate::proofs::CommitTexts::row_small))]
-pub fn commit_item(alloc: Global, row: &Term) -> Result<Vec<u8>, AllocError>
+/// The item of the commit that writes this record. Only memory may be wanting.
+pub fn commit_item(alloc: Global, row: &Term) -> Result<CommitItem, AllocError>
     requires { commits.IsRow (tree_of row.now) }
-    ensures item { IfOk result (λ item. item.items ≡ item_bytes (commits.commit_text (tree_of row.now))) }
-    // The item's content is a text of the commit.
-    ensures commit { OnOk result (commits.IsCommit (commits.commit_text (tree_of row.now)) (tree_of row.now)) }
+    ensures { IfOk result (IsItemOf (commit_for (tree_of row.now))) }
 {
-    let text = commit_text(alloc, row)?;
-    let mut item = Vec::new(alloc);
-    match put_item(&text, &mut item) {
-        Ok(()) => Ok(item),
-        Err(ItemErr::Memory) => Err(AllocError),
-        Err(ItemErr::TooLong) | Err(ItemErr::Bad(_)) => unreachable!(),
+    let mut ops = Items::new(alloc);
+    ops.push(Op::Write(table_name(alloc)?, copied(alloc, row)?))?;
+    let commit = Commit {
+        version: 0,
+        schema_ops: Items::new(alloc),
+        ops,
+    };
+    match encode_commit(alloc, &commit) {
+        Ok(item) => Ok(item),
+        Err(LogErr::Memory) => Err(AllocError),
+        // The commit of a record is never so long.
+        Err(_) => unreachable!(),
     }
 }
 
-fn commit_text(alloc: Global, row: &Term) -> Result<Vec<u8>, AllocError>
-    requires { commits.IsRow (tree_of row.now) }
-    ensures text { IfOk result (λ text. text.items ≡ commits.commit_text (tree_of row.now)) }
-    ensures commit { OnOk result (commits.IsCommit (commits.commit_text (tree_of row.now)) (tree_of row.now)) }
+/// The name of the one table.
+fn table_name(alloc: Global) -> Result<Atom, AllocError>
+    ensures { IfOk result (λ name. name ≡ codes "t") }
 {
-    let commit = commit_of(alloc, row)?;
-    let mut text = Vec::new(alloc);
-    match encode(&commit, &mut text) {
-        Ok(()) => Ok(text),
-        Err(EncodeErr::Memory) => Err(AllocError),
-        Err(EncodeErr::TooDeep) | Err(EncodeErr::TooLong) => unreachable!(),
-    }
-}
-
-/// `{commit,0,[],[{write,t,Row}]}`
-fn commit_of(alloc: Global, row: &Term) -> Result<Term, AllocError>
-    ensures { IfOk result (λ commit. tree_of commit ≡ commits.commit_of (tree_of row.now)) }
-{
-    let mut writes = Items::new(alloc);
-    writes.push(write_of(alloc, row)?)?;
-    let mut parts = Items::new(alloc);
-    parts.push(atom(alloc, "commit")?)?;
-    parts.push(Term::Int(0))?;
-    parts.push(Term::List(Items::new(alloc)))?;
-    parts.push(Term::List(writes))?;
-    Ok(Term::Tuple(parts))
-}
-
-/// `{write,t,Row}`
-fn write_of(alloc: Global, row: &Term) -> Result<Term, AllocError>
-    ensures { IfOk result (λ write. tree_of write ≡ commits.write_of (tree_of row.now)) }
-{
-    let mut parts = Items::new(alloc);
-    parts.push(atom(alloc, "write")?)?;
-    parts.push(atom(alloc, "t")?)?;
-    parts.push(copied(alloc, row)?)?;
-    Ok(Term::Tuple(parts))
+    Atom::new(alloc, "t").map_err(|_| AllocError)
 }
 
 /// The record that an item's content writes, where the content is the commit of one record of the table `t`.
 pub fn row_of(alloc: Global, content: &[u8]) -> Result<Option<Term>, AllocError>
     ensures { IfOk result (λ found. MatchOption found (commits.IsNoCommit content.now) (λ row. commits.IsRow (tree_of row) × commits.IsCommit content.now (tree_of row))) }
 {
-    match term_of(alloc, content) {
-        Ok(Some(commit)) => row_written(alloc, &commit),
-        Ok(None) => Ok(None),
-        Err(error) => Err(error),
+    match decode_commit(alloc, content)? {
+        Some(commit) => match row_written(&commit) {
+            Some(row) => Ok(Some(copied(alloc, row)?)),
+            None => Ok(None),
+        },
+        None => Ok(None),
     }
 }
 
-/// The record that a commit writes, where it is the commit of one record of the table `t`.
-fn row_written(alloc: Global, commit: &Term) -> Result<Option<Term>, AllocError>
-    ensures { IfOk result (λ found. MatchOption found (commits.WritesNone (tree_of commit.now)) (λ row. commits.IsRow (tree_of row) × (tree_of commit.now ≡ commits.commit_of (tree_of row)))) }
+/// The record that a commit without schema ops writes, where that is all that it does.
+fn row_written(commit: &Commit) -> Option<&Term>
+    ensures { MatchOption result (commits.WritesNone (commit_record commit.now)) (λ row. commits.Writes (commit_record commit.now) (tree_of row.now)) }
 {
-    let Some((key, value)) = fields_written(commit) else {
-        return Ok(None);
+    if commit.version != 0 {
+        return None;
+    }
+    match commit.ops.as_slice() {
+        [op] => row_in(op),
+        _ => None,
+    }
+}
+
+/// The record that an op writes in the table `t`.
+fn row_in(op: &Op) -> Option<&Term>
+    ensures { MatchOption result (commits.IsNoWrite (operation op.now)) (λ row. commits.IsWrite (operation op.now) (tree_of row.now)) }
+{
+    match op {
+        Op::Write(table, row) => {
+            if table.text() == "t" && is_row(row) {
+                Some(row)
+            } else {
+                None
+            }
+        }
+        Op::Delete(_, _) | Op::DeleteObject(_, _) | Op::Clear(_) => None,
+    }
+}
+
+/// Whether it is a record of the table `t`.
+fn is_row(term: &Term) -> bool
+    ensures { IsTrue result ↔ commits.IsRow (tree_of term.now) }
+{
+    match fields_of(term) {
+        Some((key, value)) => {
+            key.depth_within(MOST_LEVELS)
+                && value.depth_within(MOST_LEVELS)
+                && wire_len(term) <= MOST_ROW_BYTES
+        }
+        None => false,
+    }
+}
+
+/// The key and the value of a term `{t,Key,Value}`.
+fn fields_of(term: &Term) -> Option<(&Term, &Term)>
+    ensures { MatchOption result (commits.HasNoFields (tree_of term.now)) (λ fields. tree_of term.now ≡ row (tree_of fields.0.now) (tree_of fields.1.now)) }
+{
+    let Term::Tuple(parts) = term else {
+        return None;
     };
-    if !key.depth_within(MOST_LEVELS) || !value.depth_within(MOST_LEVELS) {
-        return Ok(None);
+    match parts.as_slice() {
+        [name, key, value] => {
+            if is_table_name(name) {
+                Some((key, value))
+            } else {
+                None
+            }
+        }
+        _ => None,
     }
-    let row = row_with(alloc, key, value)?;
-    if wire_len(&row) > MOST_ROW_BYTES {
-        return Ok(None);
-    }
-    if commit_of(alloc, &row)? == *commit {
-        return Ok(Some(row));
-    }
-    Ok(None)
 }
 
-/// The key and the value of the first write's record. Of the rest of the commit nothing is tested.
-fn fields_written(commit: &Term) -> Option<(&Term, &Term)>
-    ensures { (key value : Tree) → tree_of commit.now ≡ commits.commit_of (row key value) → option_map {U = Tree × Tree} (λ fields. (tree_of fields.0.now, tree_of fields.1.now)) result ≡ Some (key, value) }
-{
-    let writes = part(commit, 3)?;
-    let write = part(writes, 0)?;
-    let row = part(write, 2)?;
-    Some((part(row, 1)?, part(row, 2)?))
-}
-
-/// This element of a tuple or a list, counted from 0.
-fn part(term: &Term, at: usize) -> Option<&Term>
-    ensures { MatchOption result (commits.part at (tree_of term.now) ≡ None) (λ found. commits.part at (tree_of term.now) ≡ Some (tree_of found.now)) }
+fn is_table_name(term: &Term) -> bool
+    ensures { IsTrue result ↔ (tree_of term.now ≡ trees.atom (codes "t")) }
 {
     match term {
-        Term::Tuple(parts) => parts.get(at),
-        Term::List(parts) => parts.get(at),
-        Term::Int(_) | Term::Atom(_) | Term::Bin(_) => None,
+        Term::Atom(atom) => atom.text() == "t",
+        Term::Int(_) | Term::Tuple(_) | Term::List(_) | Term::Bin(_) => false,
     }
-}
-
-/// `{t,Key,Value}`
-fn row_with(alloc: Global, key: &Term, value: &Term) -> Result<Term, AllocError>
-    ensures { IfOk result (λ made. tree_of made ≡ row (tree_of key.now) (tree_of value.now)) }
-{
-    let mut parts = Items::new(alloc);
-    parts.push(atom(alloc, "t")?)?;
-    parts.push(copied(alloc, key)?)?;
-    parts.push(copied(alloc, value)?)?;
-    Ok(Term::Tuple(parts))
 }
 
 #[cfg(test)]
 mod tests {
     use super::*;
     use std::test::Fail;
+
+    // `{t,Key,Value}`
+    fn row_with(alloc: Global, key: &Term, value: &Term) -> Result<Term, AllocError>
+        ensures { IfOk result (λ made. tree_of made ≡ row (tree_of key.now) (tree_of value.now)) }
+    {
+        let mut parts = Items::new(alloc);
+        parts.push(atom(alloc, "t")?)?;
+        parts.push(copied(alloc, key)?)?;
+        parts.push(copied(alloc, value)?)?;
+        Ok(Term::Tuple(parts))
+    }
 
     // {commit,0,[],[{write,t,{t,1,a}}]}
     const COMMIT: [u8; 42] = [
@@ -203,18 +206,42 @@ mod tests {
         97, 106,
     ];
 
+    // {log1}
+    const HEAD: [u8; 9] = [131, 104, 1, 119, 4, 108, 111, 103, 49];
+
+    // {commit,0,[],[{delete,t,1}]}
+    const DELETE: [u8; 35] = [
+        131, 104, 4, 119, 6, 99, 111, 109, 109, 105, 116, 97, 0, 106, 108, 0, 0, 0, 1, 104, 3, 119,
+        6, 100, 101, 108, 101, 116, 101, 119, 1, 116, 97, 1, 106,
+    ];
+
+    // {commit,0,[],[{clear,t},{write,t,{t,1,a}}]}
+    const TWO_OPS: [u8; 54] = [
+        131, 104, 4, 119, 6, 99, 111, 109, 109, 105, 116, 97, 0, 106, 108, 0, 0, 0, 2, 104, 2, 119,
+        5, 99, 108, 101, 97, 114, 119, 1, 116, 104, 3, 119, 5, 119, 114, 105, 116, 101, 119, 1,
+        116, 104, 3, 119, 1, 116, 97, 1, 119, 1, 97, 106,
+    ];
+
     #[test]
     fn a_commit_says_its_record(rt: HostRuntime) -> Result<(), Fail> {
         let row = row_with(rt.alloc(), &Term::Int(1), &atom(rt.alloc(), "a")?)?;
         let item = commit_item(rt.alloc(), &row)?;
-        assert!(rt; item.ends_with(&COMMIT));
+        assert!(rt; item.bytes().ends_with(&COMMIT));
         let mut another_version = COMMIT;
         another_version[12] = 1;
+        let mut another_table = COMMIT;
+        another_table[30] = 117;
+        let mut another_record = COMMIT;
+        another_record[35] = 117;
         let contents = [
             (COMMIT.as_slice(), true),
             (ANOTHER_SPELLING.as_slice(), true),
-            (HEAD_TEXT.as_slice(), false),
+            (HEAD.as_slice(), false),
+            (DELETE.as_slice(), false),
+            (TWO_OPS.as_slice(), false),
             (another_version.as_slice(), false),
+            (another_table.as_slice(), false),
+            (another_record.as_slice(), false),
             (&COMMIT[1..], false),
         ];
         for (content, is_commit) in contents {
@@ -289,24 +316,20 @@ mod tests {
     }
 
     // {{..{[]}..}} of so many levels
-    fn nested(alloc: Global, levels: usize) -> Result<Term, AllocError> {
-        let mut term = Term::List(Items::new(alloc));
+    fn nested(alloc: Global, levels: usize) -> Result<Vec<u8>, AllocError> {
+        let mut text = Vec::new(alloc);
         for _ in 1..levels {
-            let mut parts = Items::new(alloc);
-            parts.push(term)?;
-            term = Term::Tuple(parts);
+            text.extend_from_slice(&[104, 1])?;
         }
-        Ok(term)
+        text.push(106)?;
+        Ok(text)
     }
 
     #[test]
     fn a_value_has_at_most_100_levels(rt: HostRuntime) -> Result<(), Fail> {
         for levels in 100..102 {
             let value = nested(rt.alloc(), levels)?;
-            let row = row_with(rt.alloc(), &Term::Int(1), &value)?;
-            let mut content = Vec::new(rt.alloc());
-            let encoded = encode(&commit_of(rt.alloc(), &row)?, &mut content);
-            assert!(rt; encoded.is_ok());
+            let content = commit_with(rt.alloc(), &[97, 1], &value)?;
             let found = row_of(rt.alloc(), &content)?;
             assert_eq!(rt; found.is_some(), levels == 100);
         }

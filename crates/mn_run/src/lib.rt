@@ -7,7 +7,7 @@ mod commands;
 mod commits;
 mod laws;
 mod lines;
-mod names;
+mod live;
 mod node;
 mod outcome;
 mod replies;
@@ -20,7 +20,7 @@ mod words;
 
 pub use commands::line_laws;
 pub use laws::directory_law;
-pub use outcome::{Outcome, Status};
+pub use outcome::{Mark, Outcome, Status};
 pub use running::run;
 
 #[cfg(test)]

@@ -16,12 +16,12 @@ pub enum Status {
     ReadFault,
     /// The sink of the replies failed.
     WriteFault,
-    /// The disk failed.
+    /// The disk failed, and the node was down for it at the script's end or after the stop there.
     DiskFault,
     /// This file has no meaning, from this place on.
     Damaged(FileName, u64),
-    /// Memory was wanting at the start, at the stop, or where a line was read or a reply printed. A command that wants memory is
-    /// answered instead.
+    /// Memory was wanting where a line was read, a reply printed or a mark taken, at the stop at the script's end, or for a start
+    /// after which the node was down at the script's end. A command that wants memory is answered.
     Memory,
     /// This line, from 1, passes a limit.
     TooLong(u64),
@@ -45,9 +45,29 @@ impl Status {
     }
 }
 
-/// What a run leaves.
+/// What was so after the first start, after a command, or after the stop at the script's end.
 #[derive(Clone, Copy, Debug, PartialEq, Eq)]
+pub struct Mark {
+    /// The disk's clock.
+    pub clock: u64,
+    /// The commands answered, without the first start.
+    pub done: u64,
+    /// The writes since the last good start, with one that a fault left in doubt.
+    pub entries: u64,
+    /// How many of these are known to be durable.
+    pub synced: u64,
+    /// The disk's count of faults.
+    pub faults: u64,
+    /// The background turns that wanted memory: there are none yet.
+    pub wants: u64,
+}
+
+/// What a run leaves.
+#[derive(Drop)]
 pub struct Outcome {
     /// How it ended.
     pub status: Status,
+    /// One mark after the first start, one after each command, and one after the stop at the script's end where there was one. Where
+    /// a status ended the run, what came last may have none.
+    pub marks: Vec<Mark>,
 }

@@ -1,17 +1,21 @@
 //! Replies as lines.
 
-ghost use Rattle.std.specs.Prelude.{◌≡◌, ◌++◌, OnOk, map, codes, decimal};
+ghost use Rattle.std.specs.Prelude.{◌≡◌, ◌↔◌, ◌++◌, IsTrue, OnOk, map, codes, decimal};
 ghost use Rattle.term_core.specs.View.{tree_of, forest_of};
 ghost use Rattle.term_text.specs.Printing.{printed, trees_text};
 ghost use Rattle.mn_run.specs.Orders as orders;
 ghost use Rattle.mn_run.specs.Replies.{text_of};
 ghost use Rattle.mn_run.specs.Seen.{answer};
+ghost use Rattle.mn_run.specs.Steps.{NamesLog};
+ghost use Rattle.txn_log.specs.Logs.{IsLogName, latest as log_name};
 
+use file_trait::FileName;
 use itoa::Buffer;
 use sqlite_items::Items;
 use std::alloc::AllocError;
 use term_core::Term;
 use term_text::print_term;
+use txn_log::latest;
 
 /// What the node answers.
 #[derive(Drop)]
@@ -24,17 +28,26 @@ pub enum Reply {
     Found(Items<Term>),
     /// The line is no command, from this byte on.
     Badarg(u64),
+    /// All commits are durable.
+    Synced,
     /// The node is down, and its log is closed.
     Stopped,
+    /// The node is down, and the command is no start.
+    Down,
+    /// The node is up, and the command is a start.
+    Up,
     /// Memory was wanting, and nothing changed.
     Memory,
-    /// The disk failed.
-    Fault,
+    /// The disk failed at this file, and the node is down.
+    Fault(FileName),
+    /// A start found that this file has no meaning, from this place on. It has no line: the run ends.
+    Damaged(FileName, u64),
 }
 
-/// Writes the reply's line at the end of `out`, and nothing for a fault.
+/// Writes the reply's line at the end of `out`, and nothing for damage.
 /// After an error `out` may end with a part of the line.
 pub fn print_reply(reply: &Reply, out: &mut Vec<u8>) -> Result<(), AllocError>
+    requires { NamesLog (answer reply.now) }
     ensures { OnOk result (out.new.items ≡ out.old.items ++ text_of (answer reply.now)) }
 {
     match reply {
@@ -42,10 +55,33 @@ pub fn print_reply(reply: &Reply, out: &mut Vec<u8>) -> Result<(), AllocError>
         Reply::Done => out.extend_from_slice(b"{atomic,ok}\n"),
         Reply::Found(records) => print_records(records.as_slice(), out),
         Reply::Badarg(at) => print_count(b"{badarg,", *at, out),
+        Reply::Synced => out.extend_from_slice(b"ok\n"),
         Reply::Stopped => out.extend_from_slice(b"stopped\n"),
+        Reply::Down => out.extend_from_slice(b"{error,down}\n"),
+        Reply::Up => out.extend_from_slice(b"{error,up}\n"),
         Reply::Memory => out.extend_from_slice(b"{error,memory}\n"),
-        Reply::Fault => Ok(()),
+        Reply::Fault(name) => print_fault(*name, out),
+        Reply::Damaged(_, _) => Ok(()),
     }
+}
+
+/// The line of a fault at one of the log's two files.
+fn print_fault(name: FileName, out: &mut Vec<u8>) -> Result<(), AllocError>
+    requires { IsLogName name }
+    ensures { OnOk result (out.new.items ≡ out.old.items ++ text_of (orders.fault name)) }
+{
+    if is_latest(name) {
+        out.extend_from_slice(b"{error,{file,'LATEST.LOG'}}\n")
+    } else {
+        out.extend_from_slice(b"{error,{file,'LATEST.LOGTMP'}}\n")
+    }
+}
+
+fn is_latest(name: FileName) -> bool
+    ensures { IsTrue result ↔ (name ≡ log_name) }
+{
+    let log = latest();
+    name.bytes() == log.bytes()
 }
 
 fn print_count(front: &[u8], count: u64, out: &mut Vec<u8>) -> Result<(), AllocError>
@@ -104,12 +140,17 @@ mod tests {
             Reply::Badarg(0),
             Reply::Stopped,
             Reply::Memory,
-            Reply::Fault,
+            Reply::Synced,
+            Reply::Down,
+            Reply::Up,
+            Reply::Fault(latest()),
+            Reply::Damaged(latest(), 0),
             Reply::Found(Items::new(alloc)),
         ] {
             print_reply(&reply, &mut out)?;
         }
-        let lines = "{started,12}\n{atomic,ok}\n{badarg,0}\nstopped\n{error,memory}\n[]\n";
+        let lines =
+            "{started,12}\n{atomic,ok}\n{badarg,0}\nstopped\n{error,memory}\nok\n{error,down}\n{error,up}\n{error,{file,'LATEST.LOG'}}\n[]\n";
         assert_eq!(rt; out.as_slice(), lines.as_bytes());
         Ok(())
     }

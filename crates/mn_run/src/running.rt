@@ -1,23 +1,23 @@
 //! The top call.
 
-ghost use Rattle.std.specs.Prelude.{◌≡◌, ◌⊎◌, ◌↔◌, ◌≤◌, map, string_bytes, IsTrue, ℕ, List};
+ghost use Rattle.std.specs.Prelude.{◌≡◌, ◌⊎◌, ◌↔◌, ◌≤◌, ◌++◌, map, string_bytes, IsTrue, ℕ, List, []};
 ghost use Rattle.file_trait.specs.Counts.{Rose};
-ghost use Rattle.file_trait.specs.DiskModel.{reads};
+ghost use Rattle.file_trait.specs.DiskModel.{Past, reads};
 ghost use Rattle.term_core.specs.Tree.{Tree};
-ghost use Rattle.term_core.specs.View.{tree_of};
-ghost use Rattle.disk_logs.specs.Logs.{IsLog};
-ghost use Rattle.mn_run.specs.Files.{Stands, NoMeaning, Shows, latest};
-ghost use Rattle.mn_run.specs.Machine.{Machine};
+ghost use Rattle.mn_run.specs.Files.{Means, NoMeaning, latest};
+ghost use Rattle.mn_run.specs.Machine.{Machine, Meaning, before, writes};
+ghost use Rattle.mn_run.specs.Runs.{World, Ran, Began, EndsDamaged, EndsOver, unbegun, expected};
 ghost use Rattle.mn_run.specs.Script.{plan_of};
-ghost use Rattle.mn_run.specs.Runs.{Ran, Began, Stopped, EndsDamaged, IsOfServing, IsOfStopping, expected};
+ghost use Rattle.mn_run.specs.Shown.{Shows, HasLogOf};
+ghost use Rattle.mn_run.specs.Steps.{IsFew, IsFaulted};
 ghost use Rattle.mn_run.specs.Words.{HasForm};
 
 use crate::asks::{Ask, Place, next_ask};
+use crate::commands::Command;
 use crate::lines::Lines;
 use crate::node::Node;
-use crate::outcome::{Outcome, Status};
-use crate::replies::Reply;
-use crate::serving::{begin, serve};
+use crate::outcome::{Mark, Outcome, Status};
+use crate::serving::{end, serve};
 use crate::words::has_form;
 use file_trait::{Disk, Sink, Source};
 use std::alloc::Global;
@@ -25,7 +25,8 @@ use std::alloc::Global;
 /// Starts a node on the disk, answers the commands of the script to its end, and stops the node.
 ///
 /// Where the disk, the source and the sink tell their bytes, the replies written are those of one run of the machine, which
-/// keeps its table as a plain list of records.
+/// keeps all writes as a plain list of records, and at each moment a crash leaves a front of these writes that holds all which the
+/// last mark counts as durable.
 pub fn run<D: Disk, S: Source, K: Sink>(
     alloc: Global,
     words: &[String],
@@ -36,18 +37,18 @@ pub fn run<D: Disk, S: Source, K: Sink>(
     ensures usage { (result.status ≡ Status.Usage) ↔ (HasForm (map string_bytes words.now) → ⊥) }
     ensures untouched { result.status ≡ Status.Usage → (disk.new ≡ disk.old) × (script.new ≡ script.old) × (out.new ≡ out.old) }
 
-    // From what the directory stands for, the replies printed are those of one run of the machine over a start, the commands
-    // of the script and a stop, or a front of them, and the directory holds its writes.
+    // From what the directory stands for, the replies printed and the marks taken are those of one run of the machine over a start,
+    // the commands of the script and its end, or a front of them. The directory holds the run's writes, and so does what a crash
+    // leaves of it at any moment, as far as the marks say.
     ensures ran { IsTrue D.tells → IsTrue S.tells → IsTrue K.tells → HasForm (map string_bytes words.now)
-        → (base : List Tree) → Stands (reads (D.past disk.old)) base
-        → Ran (S.left script.old) result.status base (reads (D.past disk.new)) (K.written out.old) (K.written out.new) }
+        → (meaning : Meaning) → Means (reads (D.past disk.old)) meaning
+        → Ran (S.left script.old) result.status (unbegun meaning (D.past disk.old) (D.faults disk.old)) (D.past disk.new) (D.faults disk.new) (K.written out.old) (K.written out.new) result.marks.items }
 
-    // Damaged comes exactly where the directory has no meaning, with the place, unless the disk failed or memory was wanting.
-    // Nothing is printed then, and nothing is done to the disk.
+    // Damaged comes exactly where the directory has no meaning, with the place, unless the disk failed, memory was wanting or another
+    // status ended the run before. Nothing is done to such a directory.
     ensures damaged { IsTrue D.tells → (name : List ℕ) (at : ℕ) → result.status ≡ Status.Damaged name at → (name ≡ latest) × NoMeaning (reads (D.past disk.old)) at }
     ensures meaning { IsTrue D.tells → HasForm (map string_bytes words.now) → (at : ℕ) → NoMeaning (reads (D.past disk.old)) at → EndsDamaged at result.status }
-    ensures silent { IsTrue D.tells → IsTrue K.tells → (at : ℕ) → NoMeaning (reads (D.past disk.old)) at → K.written out.new ≡ K.written out.old }
-    ensures kept { IsTrue D.tells → (name : List ℕ) (at : ℕ) → result.status ≡ Status.Damaged name at → D.past disk.new ≡ D.past disk.old }
+    ensures kept { IsTrue D.tells → (at : ℕ) → NoMeaning (reads (D.past disk.old)) at → D.past disk.new ≡ D.past disk.old }
 
     ensures read { result.status ≡ Status.ReadFault → Rose (S.faults script.old) (S.faults script.new) }
     ensures write { result.status ≡ Status.WriteFault → Rose (K.faults out.old) (K.faults out.new) }
@@ -56,17 +57,19 @@ pub fn run<D: Disk, S: Source, K: Sink>(
     // With words of the form, no fault and a directory with a meaning the script was read to its end or to the first line over
     // a limit, and all was answered, or want of memory ended the run.
     ensures complete { IsTrue D.tells → IsTrue S.tells → IsTrue K.tells → HasForm (map string_bytes words.now)
-        → (base : List Tree) → Stands (reads (D.past disk.old)) base
+        → (base : List Tree) → Means (reads (D.past disk.old)) (writes base)
         → ¬ Rose (S.faults script.old) (S.faults script.new) → ¬ Rose (K.faults out.old) (K.faults out.new) → ¬ Rose (D.faults disk.old) (D.faults disk.new)
         → (result.status ≡ expected (plan_of (S.left script.old)).over) ⊎ (result.status ≡ Status.Memory) }
 {
+    let mut marks = Vec::new(alloc);
     if !has_form(words) {
         return Outcome {
             status: Status::Usage,
+            marks,
         };
     }
-    let status = run_all(alloc, disk, script, out);
-    Outcome { status }
+    let status = run_all(alloc, disk, script, out, &mut marks);
+    Outcome { status, marks }
 }
 
 /// The status of a run whose words have the form.
@@ -75,21 +78,30 @@ fn run_all<D: Disk, S: Source, K: Sink>(
     disk: &mut D,
     script: &mut S,
     out: &mut K,
+    marks: &mut Vec<Mark>,
 ) -> Status
-    ensures ran { IsTrue D.tells → IsTrue S.tells → IsTrue K.tells → (base : List Tree) → Stands (reads (D.past disk.old)) base
-        → Ran (S.left script.old) result base (reads (D.past disk.new)) (K.written out.old) (K.written out.new) }
-    ensures damaged { IsTrue D.tells → (name : List ℕ) (at : ℕ) → result ≡ Status.Damaged name at → (name ≡ latest) × NoMeaning (reads (D.past disk.old)) at }
-    ensures meaning { IsTrue D.tells → (at : ℕ) → NoMeaning (reads (D.past disk.old)) at → EndsDamaged at result }
-    ensures silent { IsTrue D.tells → IsTrue K.tells → (at : ℕ) → NoMeaning (reads (D.past disk.old)) at → K.written out.new ≡ K.written out.old }
-    ensures kept { IsTrue D.tells → (name : List ℕ) (at : ℕ) → result ≡ Status.Damaged name at → D.past disk.new ≡ D.past disk.old }
+    requires none { marks.old.items ≡ [] }
+    ensures ran { IsTrue D.tells → IsTrue S.tells → IsTrue K.tells → (meaning : Meaning) → Means (reads (D.past disk.old)) meaning
+        → Ran (S.left script.old) result (unbegun meaning (D.past disk.old) (D.faults disk.old)) (D.past disk.new) (D.faults disk.new) (K.written out.old) (K.written out.new) marks.new.items }
+    ensures over { IsTrue D.tells → (meaning : Meaning) → Means (reads (D.past disk.old)) meaning → EndsOver (D.past disk.old) (before meaning).damage result (D.past disk.new) }
     ensures read { result ≡ Status.ReadFault → Rose (S.faults script.old) (S.faults script.new) }
     ensures write { result ≡ Status.WriteFault → Rose (K.faults out.old) (K.faults out.new) }
     ensures disk { result ≡ Status.DiskFault → Rose (D.faults disk.old) (D.faults disk.new) }
-    ensures no_usage { result ≡ Status.Usage → ⊥ }
+    ensures form { result ≡ Status.Usage → ⊥ }
 {
+    let mut node = Node::new();
     let mut text = Vec::new(alloc);
-    match begin(alloc, disk, out, &mut text) {
-        Ok(mut node) => serve_all(alloc, &mut node, disk, script, out, &mut text),
+    match serve(
+        alloc,
+        &mut node,
+        disk,
+        out,
+        &mut text,
+        marks,
+        0,
+        Command::Start,
+    ) {
+        Ok(()) => serve_all(alloc, &mut node, disk, script, out, &mut text, marks),
         Err(status) => status,
     }
 }
@@ -102,17 +114,20 @@ fn serve_all<D: Disk, S: Source, K: Sink>(
     script: &mut S,
     out: &mut K,
     text: &mut Vec<u8>,
+    marks: &mut Vec<Mark>,
 ) -> Status
-    requires log { IsTrue D.tells → IsLog (D.past disk.old) node.old.log }
-    ensures ran { IsTrue D.tells → IsTrue S.tells → IsTrue K.tells → (base : List Tree) (first : List ℕ)
-        → Began base (map tree_of node.old.table.rows.items) node.old.log (D.past disk.old) first (K.written out.old)
-        → Ran (S.left script.old) result base (reads (D.past disk.new)) first (K.written out.new) }
-    ensures only { IsOfServing result }
+    requires log { IsTrue D.tells → HasLogOf node.old.state (D.past disk.old) }
+    requires few { IsFew node.old 1 }
+    ensures ran { IsTrue D.tells → IsTrue S.tells → IsTrue K.tells → (old : World) (first : List ℕ)
+        → Began old node.old (D.past disk.old) (D.faults disk.old) first (K.written out.old) marks.old.items
+        → Ran (S.left script.old) result old (D.past disk.new) (D.faults disk.new) first (K.written out.new) marks.new.items }
+    ensures over { IsTrue D.tells → (first : Past) (machine : Machine) → Shows first node.old (D.past disk.old) machine → EndsOver first machine.damage result (D.past disk.new) }
     ensures read { result ≡ Status.ReadFault → Rose (S.faults script.old) (S.faults script.new) }
     ensures write { result ≡ Status.WriteFault → Rose (K.faults out.old) (K.faults out.new) }
-    ensures disk { result ≡ Status.DiskFault → Rose (D.faults disk.old) (D.faults disk.new) }
     ensures write_later { K.faults out.old ≤ K.faults out.new }
+    ensures disk { result ≡ Status.DiskFault → IsFaulted node.old.state ⊎ Rose (D.faults disk.old) (D.faults disk.new) }
     ensures disk_later { D.faults disk.old ≤ D.faults disk.new }
+    ensures form { result ≡ Status.Usage → ⊥ }
 {
     let mut lines = Lines::new();
     let mut line = Vec::new(alloc);
@@ -122,29 +137,15 @@ fn serve_all<D: Disk, S: Source, K: Sink>(
     };
     'lines: loop {
         match next_ask(alloc, &mut lines, &mut line, script, &mut place) {
-            Ok(Ask::End) => return end(node, disk),
+            Ok(Ask::End) => return end(node, disk, marks, place.commands),
             Ok(Ask::Blank) => {}
-            Ok(Ask::Do(command)) => match serve(alloc, node, disk, out, text, command) {
-                Ok(()) => {}
-                Err(status) => return status,
-            },
+            Ok(Ask::Do(command)) => {
+                match serve(alloc, node, disk, out, text, marks, place.commands, command) {
+                    Ok(()) => {}
+                    Err(status) => return status,
+                }
+            }
             Err(status) => return status,
         }
-    }
-}
-
-/// Stops the node.
-fn end<D: Disk>(node: &mut Node, disk: &mut D) -> Status
-    requires { IsTrue D.tells → IsLog (D.past disk.old) node.old.log }
-    ensures stopped { IsTrue D.tells → (machine : Machine) → Shows (map tree_of node.old.table.rows.items) node.old.log (D.past disk.old) machine
-        → Stopped machine result (D.past disk.new) }
-    ensures disk { result ≡ Status.DiskFault → Rose (D.faults disk.old) (D.faults disk.new) }
-    ensures only { IsOfStopping result }
-    ensures later { D.faults disk.old ≤ D.faults disk.new }
-{
-    match node.stop(disk) {
-        Reply::Stopped => Status::Done,
-        Reply::Memory => Status::Memory,
-        _ => Status::DiskFault,
     }
 }

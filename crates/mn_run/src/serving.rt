@@ -1,104 +1,86 @@
-//! The start, and one command after another, each with the line of its reply.
+//! One order after another, each with the line of its reply and its mark.
 
-ghost use Rattle.std.specs.Prelude.{◌≡◌, ◌≤◌, ◌++◌, ℕ, List, [], true, IsTrue, OnOk, OnErr, IfOk, IfErr, IsErrOf, MatchResult, map};
+ghost use Rattle.std.specs.Prelude.{◌≡◌, ◌⊎◌, ◌≤◌, ◌+◌, ◌++◌, ◌∷◌, ℕ, List, [], IsTrue, OnOk, OnErr, IfErr, IsErrOf};
 ghost use Rattle.file_trait.specs.Counts.{Rose};
-ghost use Rattle.file_trait.specs.DiskModel.{reads};
+ghost use Rattle.file_trait.specs.DiskModel.{Past, reads};
 ghost use Rattle.file_trait.specs.Streams.{TookSome};
-ghost use Rattle.term_core.specs.Tree.{Tree};
-ghost use Rattle.term_core.specs.View.{tree_of};
-ghost use Rattle.disk_logs.specs.Logs.{IsLog};
-ghost use Rattle.mn_run.specs.Files.{Stands, NoMeaning, Shows, latest};
-ghost use Rattle.mn_run.specs.Machine.{Machine, goes_on};
+ghost use Rattle.mn_run.specs.Files.{NoMeaning, latest};
+ghost use Rattle.mn_run.specs.Machine.{Machine};
 ghost use Rattle.mn_run.specs.Orders as orders;
+ghost use Rattle.mn_run.specs.Orders.{Answer};
 ghost use Rattle.mn_run.specs.Replies.{text_of};
-ghost use Rattle.mn_run.specs.Runs.{Began, BeginEnds, EndsDamaged, Served, Told, Causes, IsOfStarting, IsOfAnswering, IsOfPrinting, status_of};
+ghost use Rattle.mn_run.specs.Runs.{Served, Ended, Told, Causes, IsOfAnswering, IsOfEnding, IsOfPrinting};
 ghost use Rattle.mn_run.specs.Seen as seen;
 ghost use Rattle.mn_run.specs.Seen.{AsksRow};
+ghost use Rattle.mn_run.specs.Shown.{Shows, HasLogOf};
+ghost use Rattle.mn_run.specs.Statuses.{status_of_down};
+ghost use Rattle.mn_run.specs.Steps.{Steps, IsFew, IsFaulted, NamesLog};
 
 use crate::commands::Command;
-use crate::node::Node;
-use crate::outcome::Status;
+use crate::node::{Node, State};
+use crate::outcome::{Mark, Status};
 use crate::replies::{Reply, print_reply};
-use crate::starting::{StartErr, start};
 use file_trait::{Disk, Sink, SinkErr, write_all};
-use std::alloc::Global;
+use std::alloc::{AllocError, Global};
 
-/// Starts the node and prints the reply, by way of the buffer `text`.
-pub fn begin<D: Disk, K: Sink>(
-    alloc: Global,
-    disk: &mut D,
-    out: &mut K,
-    text: &mut Vec<u8>,
-) -> Result<Node, Status>
-    ensures began { IsTrue K.tells → IsTrue D.tells → (base : List Tree) → Stands (reads (D.past disk.old)) base
-        → MatchResult result (λ node. Began base (map tree_of node.table.rows.items) node.log (D.past disk.new) (K.written out.old) (K.written out.new))
-        (λ end. BeginEnds base end (reads (D.past disk.new)) (K.written out.old) (K.written out.new)) }
-    ensures log { IsTrue D.tells → IfOk result (λ node. IsLog (D.past disk.new) node.log) }
-    ensures damaged { IsTrue D.tells → (name : List ℕ) (at : ℕ) → result ≡ Err (Status.Damaged name at) → (name ≡ latest) × NoMeaning (reads (D.past disk.old)) at }
-    ensures meaning { IsTrue D.tells → (at : ℕ) → NoMeaning (reads (D.past disk.old)) at → MatchResult result (λ node. ⊥) (EndsDamaged at) }
-    ensures kept { IsTrue D.tells → (name : List ℕ) (at : ℕ) → result ≡ Err (Status.Damaged name at) → D.past disk.new ≡ D.past disk.old }
-    ensures silent { IsTrue K.tells → IsTrue D.tells → (at : ℕ) → NoMeaning (reads (D.past disk.old)) at → K.written out.new ≡ K.written out.old }
-    ensures write { Causes Status.WriteFault (K.faults out.old) (K.faults out.new) result }
-    ensures disk { Causes Status.DiskFault (D.faults disk.old) (D.faults disk.new) result }
-    ensures only { IfErr result IsOfStarting }
-{
-    let node = match start(alloc, disk) {
-        Ok(node) => node,
-        Err(error) => return Err(ended(error)),
-    };
-    match print(out, text, &Reply::Started(0)) {
-        Ok(()) => Ok(node),
-        Err(status) => Err(status),
-    }
-}
-
-fn ended(error: StartErr) -> Status
-    ensures { result ≡ status_of error }
-{
-    match error {
-        StartErr::Fault => Status::DiskFault,
-        StartErr::Damaged(name, at) => Status::Damaged(name, at),
-        StartErr::Memory => Status::Memory,
-    }
-}
-
-/// Answers a command and prints its reply, by way of the buffer `text`.
+/// Answers a command, prints its reply by way of the buffer `text`, and takes a mark, where so many commands were answered with it.
 pub fn serve<D: Disk, K: Sink>(
     alloc: Global,
     node: &mut Node,
     disk: &mut D,
     out: &mut K,
     text: &mut Vec<u8>,
+    marks: &mut Vec<Mark>,
+    done: u64,
     command: Command,
 ) -> Result<(), Status>
-    requires log { IsTrue D.tells → IsLog (D.past disk.old) node.old.log }
+    requires log { IsTrue D.tells → HasLogOf node.old.state (D.past disk.old) }
     requires row { AsksRow command }
-    ensures served { IsTrue K.tells → IsTrue D.tells → (machine : Machine) → Shows (map tree_of node.old.table.rows.items) node.old.log (D.past disk.old) machine
-        → Served machine (seen.order command) result (map tree_of node.new.table.rows.items) node.new.log (D.past disk.new) (K.written out.old) (K.written out.new) }
-    ensures log { IsTrue D.tells → OnOk result (IsLog (D.past disk.new) node.new.log) }
+    requires few { (n : ℕ) × (n ≤ 1000000) × IsFew node.old n }
+    ensures served { IsTrue K.tells → IsTrue D.tells → (first : Past) (machine : Machine) → Shows first node.old (D.past disk.old) machine
+        → Served first (record { machine = machine; past = D.past disk.old; faults = D.faults disk.old }) (seen.order command) done result node.new (D.past disk.new) (D.faults disk.new)
+        (K.written out.old) (K.written out.new) marks.old.items marks.new.items }
+    ensures steps { IsTrue D.tells → (first : Past) (machine : Machine) → Shows first node.old (D.past disk.old) machine
+        → (answer : Answer) × Steps first machine (seen.order command) answer node.new (D.past disk.old) (D.past disk.new) }
+    ensures log { IsTrue D.tells → OnOk result (HasLogOf node.new.state (D.past disk.new)) }
+    ensures few { (n : ℕ) → IsFew node.old n → IsFew node.new (n + 1) }
+    ensures damaged { IsTrue D.tells → (name : List ℕ) (at : ℕ) → result ≡ Err (Status.Damaged name at) → (name ≡ latest) × NoMeaning (reads (D.past disk.old)) at }
+    ensures down { IsFaulted node.new.state → IsFaulted node.old.state ⊎ Rose (D.faults disk.old) (D.faults disk.new) }
+    ensures later { D.faults disk.old ≤ D.faults disk.new }
     ensures write { Causes Status.WriteFault (K.faults out.old) (K.faults out.new) result }
-    ensures disk { Causes Status.DiskFault (D.faults disk.old) (D.faults disk.new) result }
     ensures only { IfErr result IsOfAnswering }
 {
     let reply = node.answer(alloc, disk, command);
-    tell(out, text, &reply)
+    let mark = node.mark(done, disk.clock(), disk.faults());
+    tell(out, text, marks, &reply, mark)
 }
 
-/// Prints a reply, where the run goes on.
-fn tell<K: Sink>(out: &mut K, text: &mut Vec<u8>, reply: &Reply) -> Result<(), Status>
-    ensures told { IsTrue K.tells → Told (seen.answer reply.now) result (K.written out.old) (K.written out.new) }
-    ensures goes { OnOk result (goes_on (seen.answer reply.now) ≡ true) }
-    ensures fault { IsErrOf result Status.DiskFault → seen.answer reply.now ≡ orders.fault }
+/// Prints a reply and takes its mark, where the run goes on.
+fn tell<K: Sink>(
+    out: &mut K,
+    text: &mut Vec<u8>,
+    marks: &mut Vec<Mark>,
+    reply: &Reply,
+    mark: Mark,
+) -> Result<(), Status>
+    requires named { NamesLog (seen.answer reply.now) }
+    ensures told { IsTrue K.tells → Told (seen.answer reply.now) mark result (K.written out.old) (K.written out.new) marks.old.items marks.new.items }
+    ensures damage { (name : List ℕ) (at : ℕ) → IsErrOf result (Status.Damaged name at) → seen.answer reply.now ≡ orders.damaged name at }
     ensures write { Causes Status.WriteFault (K.faults out.old) (K.faults out.new) result }
     ensures only { IfErr result IsOfAnswering }
 {
-    if let Reply::Fault = reply {
-        return Err(Status::DiskFault);
+    if let Reply::Damaged(name, at) = reply {
+        return Err(Status::Damaged(*name, *at));
     }
-    print(out, text, reply)
+    print(out, text, reply)?;
+    match marks.push(mark) {
+        Ok(()) => Ok(()),
+        Err(_) => Err(Status::Memory),
+    }
 }
 
 fn print<K: Sink>(out: &mut K, text: &mut Vec<u8>, reply: &Reply) -> Result<(), Status>
+    requires named { NamesLog (seen.answer reply.now) }
     ensures all { OnOk result (IsTrue K.tells → K.written out.new ≡ K.written out.old ++ text_of (seen.answer reply.now)) }
     ensures some { IsTrue K.tells → TookSome (text_of (seen.answer reply.now)) (K.written out.old) (K.written out.new) }
     ensures cause { Causes Status.WriteFault (K.faults out.old) (K.faults out.new) result }
@@ -112,5 +94,45 @@ fn print<K: Sink>(out: &mut K, text: &mut Vec<u8>, reply: &Reply) -> Result<(), 
         Ok(()) => Ok(()),
         Err(SinkErr::Failed) => Err(Status::WriteFault),
         Err(SinkErr::Memory) => Err(Status::Memory),
+    }
+}
+
+/// Stops the node at the script's end where it is up, and takes a mark of that. No reply is printed.
+pub fn end<D: Disk>(node: &mut Node, disk: &mut D, marks: &mut Vec<Mark>, done: u64) -> Status
+    requires log { IsTrue D.tells → HasLogOf node.old.state (D.past disk.old) }
+    ensures ended { IsTrue D.tells → (first : Past) (machine : Machine) → Shows first node.old (D.past disk.old) machine
+        → Ended first (record { machine = machine; past = D.past disk.old; faults = D.faults disk.old }) done result node.new (D.past disk.new) (D.faults disk.new) marks.old.items marks.new.items }
+    ensures disk { result ≡ Status.DiskFault → IsFaulted node.old.state ⊎ Rose (D.faults disk.old) (D.faults disk.new) }
+    ensures later { D.faults disk.old ≤ D.faults disk.new }
+    ensures only { IsOfEnding result }
+{
+    let reply = node.stop(disk);
+    let mark = node.mark(done, disk.clock(), disk.faults());
+    match reply {
+        Reply::Stopped => marked(marks, mark, Status::Done),
+        Reply::Fault(_) => marked(marks, mark, Status::DiskFault),
+        Reply::Down => why_down(node),
+        _ => Status::Memory,
+    }
+}
+
+/// The status, where the mark was taken.
+fn marked(marks: &mut Vec<Mark>, mark: Mark, status: Status) -> Status
+    ensures ok { (result ≡ status) × (marks.new.items ≡ marks.old.items ++ mark ∷ []) ⊎ ((result ≡ Status.Memory) × (marks.new.items ≡ marks.old.items)) }
+{
+    match marks.push(mark) {
+        Ok(()) => status,
+        Err(_) => Status::Memory,
+    }
+}
+
+/// How a run ends whose node is down at the script's end.
+fn why_down(node: &Node) -> Status
+    ensures { result ≡ status_of_down node.now.state }
+{
+    match node.state {
+        State::Stopped => Status::Done,
+        State::Faulted => Status::DiskFault,
+        State::Unstarted | State::Up(_) | State::Starved => Status::Memory,
     }
 }

@@ -1,35 +1,37 @@
 //! The start: a node over a new log, or with the table that the log makes.
 
-ghost use Rattle.std.specs.Prelude.{◌≡◌, ◌≤◌, ◌<◌, ◌+◌, ◌⊎◌, ◌∷◌, ℕ, List, [], Some, true, false, length, take, drop, slice_get, IsTrue, IsErrOf, OnOk, OnErr, IfOk, MatchResult, map};
+ghost use Rattle.std.specs.Prelude.{◌≡◌, ◌≤◌, ◌<◌, ◌+◌, ◌⊎◌, ℕ, List, [], Contains, ◌^◌, Some, true, false, length, take, slice_get, IsTrue, IsErrOf, OnOk, OnErr, IfOk, MatchResult, map};
 ghost use Rattle.file_trait.specs.Counts.{Rose};
-ghost use Rattle.file_trait.specs.DiskModel.{reads};
+ghost use Rattle.file_trait.specs.DiskModel.{reads, IsImage, IsSettled, Crashes};
 ghost use Rattle.term_core.specs.Tree.{Tree};
 ghost use Rattle.term_core.specs.View.{tree_of};
 ghost use Rattle.disk_logs.specs.Chunks.{places_of};
-ghost use Rattle.log_items.specs.Items.{wire, log_bytes};
+ghost use Rattle.log_items.specs.Items.{wire};
 ghost use Rattle.disk_logs.specs.Logs.{IsLog};
-ghost use Rattle.disk_logs.specs.Errors.{OnlyFileOrMemory, LogCause};
-ghost use Rattle.mn_run.specs.Commits.{IsRow, IsCommit, IsNoCommit, AreItemsOf, head_text};
-ghost use Rattle.mn_run.specs.Files.{Stands, NoMeaning, LacksHead, IsWrongAt, Keeps, Shows, latest};
-ghost use Rattle.mn_run.specs.Loads.{IsLogFile, Loads, MakesTable, start_error as error_of};
-ghost use Rattle.mn_run.specs.Machine.{down, booted};
+ghost use Rattle.mn_run.specs.Commits.{IsRow, IsCommit, IsNoCommit, AreItemsOf};
+ghost use Rattle.mn_run.specs.Files.{Stands, NoMeaning, LacksHead, IsWrongAt, latest};
+ghost use Rattle.mn_run.specs.Loads.{IsLogFile, Loads, MakesTable, StartCause, start_error as error_of};
+ghost use Rattle.mn_run.specs.Crash.{IsOldOr};
+ghost use Rattle.mn_run.specs.Shown.{LiveShows};
+ghost use Rattle.file_trait.specs.Moments.{Moments};
+ghost use Rattle.txn_log.specs.Logs.{handle, IsLogName};
 ghost use Rattle.mn_run.specs.Steps.{StartsDamaged};
 ghost use Rattle.mn_run.specs.declared.starting.StartErr.TheVariants.{Memory};
 
-use crate::commits::{HEAD_TEXT, is_head, row_of};
-use crate::names;
-use crate::node::Node;
+use crate::commits::{is_head, row_of};
+use crate::live::Live;
 use crate::table::Table;
-use disk_logs::{Items, Log, LogErr, check, chunk};
+use disk_logs::{Items, LogErr, check, chunk};
 use file_trait::{Disk, FileName};
 use std::alloc::{AllocError, Global};
 use term_core::Term;
+use txn_log::{TxnLog, latest as latest_name};
 
 /// Why a start did not bring the node up.
 #[derive(Clone, Copy, Debug, PartialEq, Eq)]
 pub enum StartErr {
-    /// The disk failed.
-    Fault,
+    /// The disk failed at this file.
+    Fault(FileName),
     /// This file has no meaning, from this place on.
     Damaged(FileName, u64),
     /// Memory was wanting.
@@ -44,76 +46,78 @@ impl From<AllocError> for StartErr {
     }
 }
 
-/// A node over what the directory stands for. Where there is no log it makes one.
-pub fn start<D: Disk>(alloc: Global, disk: &mut D) -> Result<Node, StartErr>
+/// What a node works on that is up over this directory. All of the log is read before anything is done to it. Then the directory is
+/// made durable, and the log is opened, which makes it durable, or where there is none a new one is published.
+pub fn start<D: Disk>(alloc: Global, disk: &mut D) -> Result<Live, StartErr>
     ensures started { IsTrue D.tells → (base : List Tree) → Stands (reads (D.past disk.old)) base
-        → IfOk result (λ node. Shows (map tree_of node.table.rows.items) node.log (D.past disk.new) (booted (down base))) }
-    ensures failed { IsTrue D.tells → (base : List Tree) → Stands (reads (D.past disk.old)) base → OnErr result (Keeps (reads (D.past disk.new)) base) }
-    ensures stands { IsTrue D.tells → IfOk result (λ node. IsLog (D.past disk.new) node.log) }
+        → IfOk result (λ live. LiveShows live (D.past disk.new) base (length base)) }
+    ensures failed { IsTrue D.tells → (base : List Tree) → Stands (reads (D.past disk.old)) base → OnErr result (Stands (reads (D.past disk.new)) base) }
+
+    // At each moment a crash leaves what it could leave before, or exactly these writes.
+    ensures any_moment { IsTrue D.tells → (base : List Tree) → Stands (reads (D.past disk.old)) base
+        → Moments (Crashes (IsOldOr (D.past disk.old) base)) (D.past disk.old) (D.past disk.new) }
+    ensures log { IsTrue D.tells → IfOk result (λ live. IsLog (D.past disk.new) (handle live.log)) }
+    ensures few { IfOk result (λ live. live.log.commits < 2 ^ 63) }
+
+    // Damaged comes exactly where the directory has no meaning, with the place, unless the disk failed or memory was wanting. Nothing
+    // is done to such a directory.
     ensures damaged { IsTrue D.tells → (name : List ℕ) (at : ℕ) → result ≡ Err (StartErr.Damaged name at) → (name ≡ latest) × NoMeaning (reads (D.past disk.old)) at }
-    ensures meaning { IsTrue D.tells → (at : ℕ) → NoMeaning (reads (D.past disk.old)) at → MatchResult result (λ node. ⊥) (StartsDamaged at) }
-    ensures kept { IsTrue D.tells → (name : List ℕ) (at : ℕ) → result ≡ Err (StartErr.Damaged name at) → D.past disk.new ≡ D.past disk.old }
+    ensures meaning { IsTrue D.tells → (at : ℕ) → NoMeaning (reads (D.past disk.old)) at → MatchResult result (λ live. ⊥) (StartsDamaged at) }
+    ensures kept { IsTrue D.tells → (at : ℕ) → NoMeaning (reads (D.past disk.old)) at → D.past disk.new ≡ D.past disk.old }
+    ensures place { (name : List ℕ) (at : ℕ) → result ≡ Err (StartErr.Damaged name at) → name ≡ latest }
     ensures later { D.faults disk.old ≤ D.faults disk.new }
-    ensures fault { IsErrOf result StartErr.Fault → Rose (D.faults disk.old) (D.faults disk.new) }
+    ensures fault { (name : List ℕ) → IsErrOf result (StartErr.Fault name) → Rose (D.faults disk.old) (D.faults disk.new) }
+    ensures blamed { (name : List ℕ) → IsErrOf result (StartErr.Fault name) → (D.blamed disk.new ≡ []) ⊎ Contains (D.blamed disk.new) name }
+    ensures named { (name : List ℕ) → IsErrOf result (StartErr.Fault name) → IsLogName name }
 {
-    match check(alloc, disk, names::latest()) {
-        Ok(true) => loaded(alloc, disk),
-        Ok(false) => match new_log(alloc, disk) {
-            Ok(log) => Ok(Node::new(log, Table::new(alloc))),
-            Err(error) => Err(start_error(error)),
-        },
+    let table = loaded(alloc, disk)?;
+    synced_directory(disk)?;
+    match TxnLog::open_latest(alloc, disk) {
+        Ok(log) => Ok(Live { log, table }),
         Err(error) => Err(start_error(error)),
     }
 }
 
-/// A node with the table that the log makes. Nothing is done to the log before all of it was read.
-fn loaded<D: Disk>(alloc: Global, disk: &mut D) -> Result<Node, StartErr>
-    requires { IsTrue D.tells → IsLogFile (reads (D.past disk.old) latest) }
-    ensures started { IsTrue D.tells → (base : List Tree) → Stands (reads (D.past disk.old)) base
-        → IfOk result (λ node. Shows (map tree_of node.table.rows.items) node.log (D.past disk.new) (booted (down base))) }
-    ensures failed { IsTrue D.tells → (base : List Tree) → Stands (reads (D.past disk.old)) base → OnErr result (Keeps (reads (D.past disk.new)) base) }
-    ensures stands { IsTrue D.tells → IfOk result (λ node. IsLog (D.past disk.new) node.log) }
-    ensures damaged { IsTrue D.tells → (name : List ℕ) (at : ℕ) → result ≡ Err (StartErr.Damaged name at) → (name ≡ latest) × NoMeaning (reads (D.past disk.old)) at }
-    ensures meaning { IsTrue D.tells → (at : ℕ) → NoMeaning (reads (D.past disk.old)) at → MatchResult result (λ node. ⊥) (StartsDamaged at) }
-    ensures kept { IsTrue D.tells → (name : List ℕ) (at : ℕ) → result ≡ Err (StartErr.Damaged name at) → D.past disk.new ≡ D.past disk.old }
-    ensures later { D.faults disk.old ≤ D.faults disk.new }
-    ensures fault { IsErrOf result StartErr.Fault → Rose (D.faults disk.old) (D.faults disk.new) }
+/// The table that the log's writes make, and an empty one where there is no log. Nothing is done to the disk.
+fn loaded<D: Disk>(alloc: Global, disk: &mut D) -> Result<Table, StartErr>
+    ensures loaded { IsTrue D.tells → IfOk result (λ table. Loads (reads (D.past disk.old)) (map tree_of table.rows.items)) }
+    ensures damaged { IsTrue D.tells → (name : List ℕ) (at : ℕ) → IsErrOf result (StartErr.Damaged name at) → NoMeaning (reads (D.past disk.old)) at }
+    ensures same { IsTrue D.tells → D.past disk.new ≡ D.past disk.old }
+    ensures cause { StartCause (D.faults disk.old) (D.faults disk.new) (D.blamed disk.new) result }
 {
-    let table = match load(alloc, disk) {
-        Ok(table) => table,
-        Err(error) => return Err(error),
-    };
-    match Log::resume(alloc, disk, names::latest()) {
-        Ok(Some(log)) => Ok(Node::new(log, table)),
-        // It was there before.
-        Ok(None) => Err(StartErr::Damaged(names::latest(), 0)),
+    match check(alloc, disk, latest_name()) {
+        Ok(true) => load(alloc, disk),
+        Ok(false) => Ok(Table::new(alloc)),
         Err(error) => Err(start_error(error)),
     }
 }
 
-/// A new log without commits, published.
-fn new_log<D: Disk>(alloc: Global, disk: &mut D) -> Result<Log, LogErr>
-    ensures log { IfOk result (λ log. log ≡ record { name = latest; draft = false; closed = true }) }
-    ensures file { IsTrue D.tells → OnOk result (reads (D.past disk.new) latest ≡ Some (log_bytes true (head_text ∷ []))) }
-    ensures left { IsTrue D.tells → OnErr result ((reads (D.past disk.new) latest ≡ reads (D.past disk.old) latest) ⊎ (reads (D.past disk.new) latest ≡ Some (log_bytes true (head_text ∷ [])))) }
-    ensures only { OnlyFileOrMemory result }
-    ensures cause { LogCause (D.faults disk.old) (D.faults disk.new) (D.blamed disk.new) result }
+/// Makes what was done to the directory durable: from then on a crash leaves under the log's name what has it now.
+fn synced_directory<D: Disk>(disk: &mut D) -> Result<(), StartErr>
+    ensures settled { IsTrue D.tells → OnOk result (IsSettled (D.past disk.new) latest) }
+
+    // At each moment a crash leaves what it could leave before, and the files read as before.
+    ensures any_moment { IsTrue D.tells → Moments (Crashes (IsImage (D.past disk.old))) (D.past disk.old) (D.past disk.new) }
+    ensures as_before { IsTrue D.tells → reads (D.past disk.new) latest ≡ reads (D.past disk.old) latest }
+    ensures fault { (error : StartErr) → IsErrOf result error → error ≡ StartErr.Fault latest }
+    ensures cause { StartCause (D.faults disk.old) (D.faults disk.new) (D.blamed disk.new) result }
 {
-    let mut log = Log::draft(alloc, disk, names::latest(), &HEAD_TEXT)?;
-    log.publish(disk)?;
-    Ok(log)
+    match disk.sync_dir() {
+        Ok(()) => Ok(()),
+        // It takes no memory.
+        Err(_) => Err(StartErr::Fault(latest_name())),
+    }
 }
 
-/// The table that the log's commits make.
+/// The table that the log's commits make. Nothing is done to the disk.
 fn load<D: Disk>(alloc: Global, disk: &mut D) -> Result<Table, StartErr>
     requires { IsTrue D.tells → IsLogFile (reads (D.past disk.old) latest) }
     ensures loaded { IsTrue D.tells → IfOk result (λ table. Loads (reads (D.past disk.old)) (map tree_of table.rows.items)) }
-    ensures damaged { IsTrue D.tells → (name : List ℕ) (at : ℕ) → result ≡ Err (StartErr.Damaged name at) → (name ≡ latest) × NoMeaning (reads (D.past disk.old)) at }
+    ensures damaged { IsTrue D.tells → (name : List ℕ) (at : ℕ) → IsErrOf result (StartErr.Damaged name at) → NoMeaning (reads (D.past disk.old)) at }
     ensures same { IsTrue D.tells → D.past disk.new ≡ D.past disk.old }
-    ensures later { D.faults disk.old ≤ D.faults disk.new }
-    ensures fault { IsErrOf result StartErr.Fault → Rose (D.faults disk.old) (D.faults disk.new) }
+    ensures cause { StartCause (D.faults disk.old) (D.faults disk.new) (D.blamed disk.new) result }
 {
-    let read = match chunk(alloc, disk, names::latest(), 8, u64::MAX) {
+    let read = match chunk(alloc, disk, latest_name(), 8, u64::MAX) {
         Ok(read) => read,
         Err(error) => return Err(start_error(error)),
     };
@@ -129,10 +133,10 @@ fn table_of(alloc: Global, items: &Items, places: &[u64]) -> Result<Table, Start
     requires { places.now ≡ places_of 8 items.now }
     ensures made { IfOk result (λ table. MakesTable items.now (map tree_of table.rows.items)) }
     ensures damaged { (name : List ℕ) (at : ℕ) → result ≡ Err (StartErr.Damaged name at) → (name ≡ latest) × IsWrongAt items.now at }
-    ensures fault { IsErrOf result StartErr.Fault → ⊥ }
+    ensures fault { (name : List ℕ) → IsErrOf result (StartErr.Fault name) → ⊥ }
 {
     if !has_head(alloc, items)? {
-        return Err(StartErr::Damaged(names::latest(), 8));
+        return Err(StartErr::Damaged(latest_name(), 8));
     }
     let mut table = Table::new(alloc);
     let mut number = 1;
@@ -167,21 +171,22 @@ fn record_at(alloc: Global, items: &Items, places: &[u64], number: usize) -> Res
     ensures row { IfOk result (λ row. IsRow (tree_of row) × (content : List ℕ) × (slice_get items.now number ≡ Some content) × IsCommit content (tree_of row)) }
     ensures damaged { (name : List ℕ) (at : ℕ) → result ≡ Err (StartErr.Damaged name at)
         → (name ≡ latest) × (at ≡ 8 + length (wire (take number items.now))) × (content : List ℕ) × (slice_get items.now number ≡ Some content) × IsNoCommit content }
-    ensures fault { IsErrOf result StartErr.Fault → ⊥ }
+    ensures fault { (name : List ℕ) → IsErrOf result (StartErr.Fault name) → ⊥ }
 {
     let content = items.get(number).unwrap();
     match row_of(alloc, content)? {
         Some(row) => Ok(row),
-        None => Err(StartErr::Damaged(names::latest(), places[number])),
+        None => Err(StartErr::Damaged(latest_name(), places[number])),
     }
 }
 
+// What has no meaning is always the log: no other file is read.
 fn start_error(error: LogErr) -> StartErr
     ensures { result ≡ error_of error }
 {
     match error {
-        LogErr::File(_) => StartErr::Fault,
-        LogErr::Bad(name, at) => StartErr::Damaged(name, at),
+        LogErr::File(name) => StartErr::Fault(name),
+        LogErr::Bad(_, at) => StartErr::Damaged(latest_name(), at),
         LogErr::TooLong | LogErr::Memory => StartErr::Memory,
     }
 }

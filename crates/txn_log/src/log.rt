@@ -96,6 +96,9 @@ impl TxnLog {
         // At each moment a crash leaves the first ones of the old commits and the new, and at least those that were synced.
         ensures any_moment { (commits : List CommitRecord) (synced : ℕ) (commit : CommitRecord) → IsTrue D.tells → IsItemOf commit item.now → TxnStands (D.past disk.old) self.old commits synced
             → Moments (Leaves (commits ++ commit ∷ []) synced) (D.past disk.old) (D.past disk.new) }
+        // Where memory was wanting it leaves only old ones.
+        ensures only_old { (commits : List CommitRecord) (synced : ℕ) → IsTrue D.tells → TxnStands (D.past disk.old) self.old commits synced
+            → IsErrOf result LogErr.Memory → Moments (Leaves commits synced) (D.past disk.old) (D.past disk.new) }
         ensures touches { IsTrue D.tells → Touches IsLogName (D.past disk.old) (D.past disk.new) }
         ensures named { (name : List ℕ) → IsErrOf result (LogErr.File name) → name ≡ latest_name }
         ensures only { OnlyFileOrMemory result }

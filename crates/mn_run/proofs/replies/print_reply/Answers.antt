@@ -1,19 +1,34 @@
-use Rattle.std.proofs.Common.{◌≡◌, ℕ, List, ◌++◌, Result, Ok, Err, cond, ap, sym, ◌∙◌, codes}
-use Rattle.std.specs.Prelude.{OnOk, is_ok}
+use Rattle.std.proofs.Common.{◌≡◌, ap, codes}
 use Rattle.mn_run.specs.declared.replies.Reply.{Reply}
 use Rattle.mn_run.specs.Replies.{text_of}
 use Rattle.mn_run.specs.Seen.{answer}
+use Rattle.mn_run.proofs.ReplyLines.{line_added}
 use Rattle.mn_run.proofs.replies.print_reply.Goals as goal
-
--- the bytes that were added are the line
-line_added : {T E : Type 0} (result : Result T E) (old new bytes line : List ℕ) → line ≡ bytes → new ≡ cond (is_ok result) (old ++ bytes) old → OnOk result (new ≡ old ++ line)
-line_added (Ok x) old new bytes line is added = added ∙ ap (λ (text : List ℕ). old ++ text) (sym is)
-line_added (Err error) old new bytes line is added = tt
 
 pub returns-in-Done : goal.returns-in-Done
 returns-in-Done c =
     let line : text_of (answer c.args.reply.now) ≡ codes "{atomic,ok}\n" = ap (λ (reply : Reply). text_of (answer reply)) c.in-Done.is in
     line_added c.extend_from_slice.result c.args.out.now.items c.extend_from_slice.new.self.items (codes "{atomic,ok}\n") (text_of (answer c.args.reply.now)) line c.extend_from_slice.ensures.items
+
+pub returns-in-Synced : goal.returns-in-Synced
+returns-in-Synced c =
+    let line : text_of (answer c.args.reply.now) ≡ codes "ok\n" = ap (λ (reply : Reply). text_of (answer reply)) c.in-Synced.is in
+    line_added c.extend_from_slice-in-Synced.result c.args.out.now.items c.extend_from_slice-in-Synced.new.self.items (codes "ok\n") (text_of (answer c.args.reply.now)) line c.extend_from_slice-in-Synced.ensures.items
+
+pub returns-in-Stopped : goal.returns-in-Stopped
+returns-in-Stopped c =
+    let line : text_of (answer c.args.reply.now) ≡ codes "stopped\n" = ap (λ (reply : Reply). text_of (answer reply)) c.in-Stopped.is in
+    line_added c.extend_from_slice-in-Stopped.result c.args.out.now.items c.extend_from_slice-in-Stopped.new.self.items (codes "stopped\n") (text_of (answer c.args.reply.now)) line c.extend_from_slice-in-Stopped.ensures.items
+
+pub returns-in-Down : goal.returns-in-Down
+returns-in-Down c =
+    let line : text_of (answer c.args.reply.now) ≡ codes "{error,down}\n" = ap (λ (reply : Reply). text_of (answer reply)) c.in-Down.is in
+    line_added c.extend_from_slice-in-Down.result c.args.out.now.items c.extend_from_slice-in-Down.new.self.items (codes "{error,down}\n") (text_of (answer c.args.reply.now)) line c.extend_from_slice-in-Down.ensures.items
+
+pub returns-in-Up : goal.returns-in-Up
+returns-in-Up c =
+    let line : text_of (answer c.args.reply.now) ≡ codes "{error,up}\n" = ap (λ (reply : Reply). text_of (answer reply)) c.in-Up.is in
+    line_added c.extend_from_slice-in-Up.result c.args.out.now.items c.extend_from_slice-in-Up.new.self.items (codes "{error,up}\n") (text_of (answer c.args.reply.now)) line c.extend_from_slice-in-Up.ensures.items
 
 pub returns-in-Memory : goal.returns-in-Memory
 returns-in-Memory c =

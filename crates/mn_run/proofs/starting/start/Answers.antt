@@ -1,59 +1,89 @@
-use Rattle.std.proofs.Common.{◌≡◌, ◌⊎◌, Ok, Err, Some, [], ◌∷◌, true, false, map, rules, sym, ap, ◌∙◌, subst}
+use Rattle.std.proofs.Common.{◌≡◌, Err, map, sym, ap, ◌∙◌, subst}
+use Rattle.std.proofs.lemmas.Result.{err_from_is_err_and}
 use Rattle.term_core.specs.View.{tree_of}
 use Rattle.file_trait.specs.DiskModel.{Past, reads}
-use Rattle.disk_logs.specs.Logs.{HasLog}
-use Rattle.log_items.specs.Items.{log_bytes}
-use Rattle.mn_run.specs.Commits.{head_text}
-use Rattle.mn_run.specs.Files.{NoMeaning, Stands, Shows, latest}
-use Rattle.mn_run.specs.Loads.{start_error}
-use Rattle.mn_run.specs.Machine.{down, booted}
-use Rattle.mn_run.specs.Steps.{StartsDamaged}
+use Rattle.txn_log.specs.Logs.{IsWrong}
+use Rattle.mn_run.specs.Shown.{commit_for}
 use Rattle.mn_run.specs.declared.starting.StartErr.TheVariants.{Damaged}
-use Rattle.mn_run.proofs.Acts.{new_stands}
-use Rattle.mn_run.proofs.Loading.{no_writes, new_shows, new_failed, starts_damaged, check_damaged}
+use Rattle.mn_run.proofs.Kept.{synced_moments, opened_moments, same_log, commits_read, opened_kept, live_shows}
+use Rattle.mn_run.proofs.Loading.{bad_of, loaded_means, loaded_opens, starts_damaged}
 use Rattle.mn_run.proofs.starting.start.Goals as goal
 
-pub returns-in-Ok-true-clause-failed : goal.returns-in-Ok-true-clause-failed
-returns-in-Ok-true-clause-failed g c told base stands = c.loaded.ensures.failed told base (subst (λ p. Stands (reads p) base) (sym (c.in-Ok-true.ensures.same told)) stands)
+pub returns-in_err-table-clause-meaning : goal.returns-in_err-table-clause-meaning
+returns-in_err-table-clause-meaning g c told at none =
+    let failed = c.in_err-table.ensures in
+    let p = err_from_is_err_and c.from_residual.result c.from_residual.ensures.1 in
+    rw (p.1, p.2) (starts_damaged (reads (g.D.Disk.past c.args.disk.now)) at c.in_err-table.field-0.0
+    (λ name place is. (failed.cause.place name place (ap (λ x. Err x) is), failed.damaged told name place (ap (λ x. Err x) is))) none)
 
-pub returns-in-Ok-true-clause-meaning : goal.returns-in-Ok-true-clause-meaning
-returns-in-Ok-true-clause-meaning g c told at none = c.loaded.ensures.meaning told at (subst (λ p. NoMeaning (reads p) at) (sym (c.in-Ok-true.ensures.same told)) none)
+pub returns-in_err-synced_directory-clause-any_moment : goal.returns-in_err-synced_directory-clause-any_moment
+returns-in_err-synced_directory-clause-any_moment g c told base stands =
+    synced_moments (g.D.Disk.past c.args.disk.now) (g.D.Disk.past c.loaded.new.disk) (g.D.Disk.past c.synced_directory.new.disk) base (c.in_ok-table.ensures.same told) (c.in_err-synced_directory.ensures.any_moment told)
+
+pub returns-in_err-synced_directory-clause-kept : goal.returns-in_err-synced_directory-clause-kept
+returns-in_err-synced_directory-clause-kept g c told at none =
+    absurd (loaded_means (reads (g.D.Disk.past c.args.disk.now)) (map tree_of c.in_ok-table.table.rows.items) at (c.in_ok-table.ensures.loaded told) none)
 
 pub returns-in-Ok-clause-started : goal.returns-in-Ok-clause-started
 returns-in-Ok-clause-started g c told base stands =
     let old : Past = g.D.Disk.past c.args.disk.now in
-    let new : Past = g.D.Disk.past c.new_log.new.disk in
-    let log = c.new-in-Ok.result.log in
-    let table = map tree_of c.new-in-Ok.result.table.rows.items in
-    let none : table ≡ [] = search rules in
-    let absent : HasLog (Ok false) (reads old c.latest.result) = subst (λ b. HasLog (Ok b) (reads old c.latest.result)) c.in-Ok-false.field-0-test (c.in-Ok-false.ensures.found told) in
-    let was = no_writes (reads old) base c.latest.result c.latest.ensures.value absent stands in
-    subst (λ b. Shows table log new (booted (down b))) (sym was.1) (new_shows new log table none (c.new-in-Ok.ensures.log ∙ c.in-Ok.ensures.log) (c.in-Ok.ensures.file told))
+    let read : Past = g.D.Disk.past c.loaded.new.disk in
+    let mid : Past = g.D.Disk.past c.synced_directory.new.disk in
+    let has = commits_read old read mid base stands (c.in_ok-table.ensures.same told) (c.in_ok-synced_directory.ensures.as_before told) in
+    live_shows (record { log = c.in-Ok.log; table = c.in_ok-table.table }) old (g.D.Disk.past c.open_latest.new.disk) base stands (c.in_ok-table.ensures.loaded told)
+    (c.in-Ok.ensures.stands (map commit_for base) told has (c.in_ok-synced_directory.ensures.settled told))
 
-pub returns-in-Ok-clause-stands : goal.returns-in-Ok-clause-stands
-returns-in-Ok-clause-stands g c told =
-    new_stands c.new-in-Ok.result.log (g.D.Disk.past c.new_log.new.disk) (c.new-in-Ok.ensures.log ∙ c.in-Ok.ensures.log) (c.in-Ok.ensures.file told)
-
-pub returns-in-Err-new_log-clause-failed : goal.returns-in-Err-new_log-clause-failed
-returns-in-Err-new_log-clause-failed g c told base stands =
+pub returns-in-Ok-clause-any_moment : goal.returns-in-Ok-clause-any_moment
+returns-in-Ok-clause-any_moment g c told base stands =
     let old : Past = g.D.Disk.past c.args.disk.now in
-    let new : Past = g.D.Disk.past c.new_log.new.disk in
-    let absent : HasLog (Ok false) (reads old c.latest.result) = subst (λ b. HasLog (Ok b) (reads old c.latest.result)) c.in-Ok-false.field-0-test (c.in-Ok-false.ensures.found told) in
-    let was = no_writes (reads old) base c.latest.result c.latest.ensures.value absent stands in
-    let left = subst (λ p. (reads new latest ≡ reads p latest) ⊎ (reads new latest ≡ Some (log_bytes true (head_text ∷ [])))) (c.in-Ok-false.ensures.same told) (c.in-Err-new_log.ensures.left told) in
-    new_failed (reads old) (reads new) base was left
+    let read : Past = g.D.Disk.past c.loaded.new.disk in
+    let mid : Past = g.D.Disk.past c.synced_directory.new.disk in
+    let same = c.in_ok-table.ensures.same told in
+    let synced = c.in_ok-synced_directory.ensures in
+    let has = commits_read old read mid base stands same (synced.as_before told) in
+    opened_moments old read mid (g.D.Disk.past c.open_latest.new.disk) base stands same (synced.any_moment told) (c.in-Ok.ensures.any_moment (map commit_for base) told has (synced.settled told))
+
+pub returns-in-Ok-clause-meaning : goal.returns-in-Ok-clause-meaning
+returns-in-Ok-clause-meaning g c told at none =
+    loaded_means (reads (g.D.Disk.past c.args.disk.now)) (map tree_of c.in_ok-table.table.rows.items) at (c.in_ok-table.ensures.loaded told) none
+
+pub returns-in-Ok-clause-kept : goal.returns-in-Ok-clause-kept
+returns-in-Ok-clause-kept g c told at none =
+    absurd (loaded_means (reads (g.D.Disk.past c.args.disk.now)) (map tree_of c.in_ok-table.table.rows.items) at (c.in_ok-table.ensures.loaded told) none)
+
+pub returns-in-Err-clause-failed : goal.returns-in-Err-clause-failed
+returns-in-Err-clause-failed g c told base stands =
+    let old : Past = g.D.Disk.past c.args.disk.now in
+    let read : Past = g.D.Disk.past c.loaded.new.disk in
+    let mid : Past = g.D.Disk.past c.synced_directory.new.disk in
+    let has = commits_read old read mid base stands (c.in_ok-table.ensures.same told) (c.in_ok-synced_directory.ensures.as_before told) in
+    opened_kept old (g.D.Disk.past c.open_latest.new.disk) base stands (c.in-Err.ensures.kept (map commit_for base) told has)
+
+pub returns-in-Err-clause-any_moment : goal.returns-in-Err-clause-any_moment
+returns-in-Err-clause-any_moment g c told base stands =
+    let old : Past = g.D.Disk.past c.args.disk.now in
+    let read : Past = g.D.Disk.past c.loaded.new.disk in
+    let mid : Past = g.D.Disk.past c.synced_directory.new.disk in
+    let same = c.in_ok-table.ensures.same told in
+    let synced = c.in_ok-synced_directory.ensures in
+    let has = commits_read old read mid base stands same (synced.as_before told) in
+    opened_moments old read mid (g.D.Disk.past c.open_latest.new.disk) base stands same (synced.any_moment told) (c.in-Err.ensures.any_moment (map commit_for base) told has (synced.settled told))
 
 pub returns-in-Err-clause-damaged : goal.returns-in-Err-clause-damaged
 returns-in-Err-clause-damaged g c told name at is =
     let old : Past = g.D.Disk.past c.args.disk.now in
-    let error_is : c.start_error-in-Err.result ≡ Damaged name at = cc in
-    check_damaged (reads old) c.in-Err.error name at (subst (λ n. HasLog (Err c.in-Err.error) (reads old n)) c.latest.ensures.value (c.in-Err.ensures.found told))
-    (λ other place e. c.in-Err.ensures.bad other place (ap (λ x. Err x) e) ∙ c.latest.ensures.value) (sym c.start_error-in-Err.ensures ∙ error_is)
+    let read : Past = g.D.Disk.past c.loaded.new.disk in
+    let mid : Past = g.D.Disk.past c.synced_directory.new.disk in
+    let error_is : c.start_error.result ≡ Damaged name at = cc in
+    let bad = bad_of c.in-Err.error name at (sym c.start_error.ensures ∙ error_is) in
+    let wrong = c.in-Err.ensures.bad told bad.1 at (ap (λ x. Err x) bad.2) in
+    absurd (loaded_opens (reads old) (map tree_of c.in_ok-table.table.rows.items) at (c.in_ok-table.ensures.loaded told)
+    (subst (IsWrong at) (same_log old read mid (c.in_ok-table.ensures.same told) (c.in_ok-synced_directory.ensures.as_before told)) wrong.1))
 
 pub returns-in-Err-clause-meaning : goal.returns-in-Err-clause-meaning
 returns-in-Err-clause-meaning g c told at none =
-    let old : Past = g.D.Disk.past c.args.disk.now in
-    subst (StartsDamaged at) (sym c.start_error-in-Err.ensures)
-    (starts_damaged (reads old) at (start_error c.in-Err.error)
-    (λ name place is. check_damaged (reads old) c.in-Err.error name place (subst (λ n. HasLog (Err c.in-Err.error) (reads old n)) c.latest.ensures.value (c.in-Err.ensures.found told))
-    (λ other p e. c.in-Err.ensures.bad other p (ap (λ x. Err x) e) ∙ c.latest.ensures.value) is) none)
+    absurd (loaded_means (reads (g.D.Disk.past c.args.disk.now)) (map tree_of c.in_ok-table.table.rows.items) at (c.in_ok-table.ensures.loaded told) none)
+
+pub returns-in-Err-clause-kept : goal.returns-in-Err-clause-kept
+returns-in-Err-clause-kept g c told at none =
+    absurd (loaded_means (reads (g.D.Disk.past c.args.disk.now)) (map tree_of c.in_ok-table.table.rows.items) at (c.in_ok-table.ensures.loaded told) none)

@@ -2,7 +2,7 @@ use Rattle.std.proofs.Common.{◌∙◌, ◌&&◌, ap, subst}
 use Rattle.file_trait.specs.DiskModel.{reads}
 use Rattle.file_trait.proofs.Touched.{then_touched, append_touches}
 use Rattle.disk_logs.specs.Logs.{Handle, file_of, HasAppended}
-use Rattle.disk_logs.proofs.Acts.{marked_moments, append_moments, append_stands}
+use Rattle.disk_logs.proofs.Acts.{marked_moments, append_moments, append_stands, wanted_moments}
 use Rattle.disk_logs.proofs.Appends.{appended}
 use Rattle.disk_logs.proofs.Effects.{appended_kept}
 use Rattle.disk_logs.proofs.log.Log.append.Goals as goal
@@ -37,3 +37,7 @@ returns-clause-any_moment g c all more synced told fit is stands =
     append_moments _ _ all more synced _ _ _ _ c.args.self.now c.set_mark.new.self _ (c.self-2.invariant ∙ ap file_of c.self-2.view_is) is fit c.in_ok-set_mark.ensures.log
     (c.mark_to_append-closed.ensures ∙ ap (λ (h : Handle). h.draft && h.closed) c.self.view_is) (c.set_mark.ensures.any_moment all synced told stands)
     (c.in_ok-set_mark.ensures.stands all synced told stands) (c.append.ensures.done told)
+
+pub returns-clause-only_old : goal.returns-clause-only_old
+returns-clause-only_old g c all synced told stands wanted =
+    wanted_moments _ _ _ all synced _ c.told.result _ _ _ c.told.ensures wanted (c.append.ensures.done told) (c.set_mark.ensures.any_moment all synced told stands)

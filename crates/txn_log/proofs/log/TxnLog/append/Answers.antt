@@ -1,6 +1,6 @@
 use Rattle.std.proofs.Common.{◌+◌, Ok, Err, ap, ◌∙◌}
 use Rattle.txn_log.specs.Logs.{LogState, handle}
-use Rattle.txn_log.proofs.Acts.{item_is, touches_log, handle_file, handle_marked, handle_either, append_logs, append_fails, append_moments, appended_stands, kept_stands}
+use Rattle.txn_log.proofs.Acts.{item_is, touches_log, handle_file, handle_marked, handle_either, append_logs, append_fails, append_moments, appended_stands, kept_stands, same_moments}
 use Rattle.txn_log.proofs.log.TxnLog.append.Goals as goal
 
 pub append-requires-clause-items : goal.append-requires-clause-items
@@ -25,6 +25,11 @@ pub returns-in-Err-clause-any_moment : goal.returns-in-Err-clause-any_moment
 returns-in-Err-clause-any_moment g c commits synced commit told item stands =
     append_moments (g.D.Disk.past c.args.disk.now) (g.D.Disk.past c.append.new.disk) c.self.inside.log c.append.new.self c.args.self.now commits synced (c.self.invariant ∙ ap handle c.self.view_is) stands
     c.args.item.now commit item (λ all more least fit is. c.in-Err.ensures.any_moment all more least told fit (c.bytes.ensures.value ∙ is))
+
+pub returns-in-Err-clause-only_old : goal.returns-in-Err-clause-only_old
+returns-in-Err-clause-only_old g c commits synced told stands is =
+    same_moments (g.D.Disk.past c.args.disk.now) (g.D.Disk.past c.append.new.disk) c.self.inside.log c.append.new.self c.args.self.now commits synced (c.self.invariant ∙ ap handle c.self.view_is) stands
+    (λ all least before. c.in-Err.ensures.only_old all least told before is)
 
 pub returns-in-Err-clause-touches : goal.returns-in-Err-clause-touches
 returns-in-Err-clause-touches g c told =
