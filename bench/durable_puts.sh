@@ -1,0 +1,46 @@
+#!/bin/sh
+# How many puts a second the program makes durable one by one, beside how often the machine appends 60 bytes and makes them durable:
+# 2,000 puts with a sync_log after each, and as many bare appends with fdatasync.
+here=$(dirname -- "$(readlink -f -- "$0")")
+if ! command -v python3 >/dev/null; then
+    echo "skipped: there is no python3"
+    exit 0
+fi
+dir=$(mktemp -d) || exit 1
+trap 'rm -rf -- "$dir"' EXIT
+mkdir "$dir/data"
+
+# Builds the program where it is not built yet, so that no build is timed.
+"$here/../mnesia_cli" </dev/null 2>"$dir/usage"
+case $? in
+    1) ;;
+    *) cat "$dir/usage" >&2; exit 1 ;;
+esac
+
+python3 - "$here/../mnesia_cli" "$dir" <<'PY'
+import os, subprocess, sys, time
+
+program, dir = sys.argv[1:]
+puts = 2_000
+script = os.path.join(dir, "script")
+with open(script, "w") as file:
+    file.writelines(f"put t {{t,{n},{n}}}\nsync_log\n" for n in range(puts))
+with open(script) as source:
+    start = time.perf_counter()
+    run = subprocess.run([program, os.path.join(dir, "data")], stdin=source, stdout=subprocess.PIPE)
+    run_seconds = time.perf_counter() - start
+if run.returncode != 0 or run.stdout.count(b"\nok\n") + run.stdout.count(b"ok\n{") < puts:
+    sys.exit(f"the run ended with status {run.returncode}, and not all was answered")
+
+file = os.open(os.path.join(dir, "appends"), os.O_WRONLY | os.O_CREAT | os.O_APPEND)
+start = time.perf_counter()
+for _ in range(puts):
+    os.write(file, b"x" * 60)
+    os.fdatasync(file)
+sync_seconds = time.perf_counter() - start
+os.close(file)
+
+print(f"puts made durable: {puts / run_seconds:,.0f} a second")
+print(f"bare appends with fdatasync: {puts / sync_seconds:,.0f} a second")
+print(f"ratio: {sync_seconds / run_seconds:.2f}")
+PY

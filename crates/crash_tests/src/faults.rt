@@ -1,0 +1,51 @@
+//! A disk of which each call in turn fails.
+
+use crate::images::wrong_image;
+use crate::plain::Plain;
+use crate::steps::{GETS, STEPS, Step, calls_of_a_run, ran};
+use file_mem::MemDisk;
+use file_trait::Disk;
+use mn_run::Status;
+use std::alloc::{AllocError, Global};
+use std::test::Fail;
+
+// The script, a start, and all that the table has then.
+fn longer(alloc: Global) -> Result<Vec<Step>, AllocError> {
+    let mut steps = STEPS.to_vec(alloc)?;
+    steps.push(Step::Start)?;
+    steps.extend_from_slice(&GETS)?;
+    Ok(steps)
+}
+
+// After the fault the node is down until a start, and then it has all writes that were answered. The fault is replied to the
+// command that it befell, or befell the stop at the script's end. A crash after the run leaves what is durable.
+#[test]
+fn failed_at_each_call(rt: HostRuntime) -> Result<(), Fail> {
+    let count = calls_of_a_run(rt.alloc())?;
+    let steps = longer(rt.alloc())?;
+    for call in 1..=count {
+        let mut disk = MemDisk::new(rt.alloc());
+        disk.fail_at(call, 5)?;
+        let (outcome, replies) = ran(rt.alloc(), &mut disk, &steps)?;
+        let mut plain = Plain::new(rt.alloc());
+        assert!(rt;
+            plain.takes_all(rt.alloc(), &steps, &replies)?,
+            "replies at {call}"
+        );
+        assert!(rt; plain.is_up, "state at {call}");
+        let (status, faults) = (outcome.status, plain.faults);
+        let at_the_end = status == Status::DiskFault && faults == 0;
+        assert!(rt;
+            at_the_end || (status == Status::Done && faults == 1),
+            "end at {call}"
+        );
+        assert_eq!(rt; disk.faults(), 1, "faults at {call}");
+        plain.end(status == Status::Done)?;
+        assert_eq!(rt;
+            wrong_image(rt.alloc(), &disk, &plain)?,
+            None,
+            "image at {call}"
+        );
+    }
+    Ok(())
+}
