@@ -24,13 +24,16 @@ program, dir = sys.argv[1:]
 puts = 2_000
 script = os.path.join(dir, "script")
 with open(script, "w") as file:
-    file.writelines(f"put t {{t,{n},{n}}}\nsync_log\n" for n in range(puts))
-with open(script) as source:
+    file.writelines(f"put t {{t,{n % 1000},{n}}}\nsync_log\n" for n in range(puts))
+replies = os.path.join(dir, "replies")
+with open(script) as source, open(replies, "w") as out:
     start = time.perf_counter()
-    run = subprocess.run([program, os.path.join(dir, "data")], stdin=source, stdout=subprocess.PIPE)
+    run = subprocess.run([program, os.path.join(dir, "data")], stdin=source, stdout=out)
     run_seconds = time.perf_counter() - start
-if run.returncode != 0 or run.stdout.count(b"\nok\n") + run.stdout.count(b"ok\n{") < puts:
-    sys.exit(f"the run ended with status {run.returncode}, and not all was answered")
+with open(replies) as file:
+    synced = sum(1 for line in file if line == "ok\n")
+if run.returncode != 0 or synced < puts:
+    sys.exit(f"the run ended with status {run.returncode} and {synced} syncs of {puts}")
 
 file = os.open(os.path.join(dir, "appends"), os.O_WRONLY | os.O_CREAT | os.O_APPEND)
 start = time.perf_counter()
