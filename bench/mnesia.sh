@@ -1,22 +1,9 @@
 #!/bin/sh
 # How many puts a second the program answers beside how many transactions of one write Mnesia does on a disc_copies table of one node:
 # 20,000 of each over 1,000 keys, and 1,000 of each with a sync of the log behind every one.
-here=$(dirname -- "$(readlink -f -- "$0")")
-for tool in python3 erl; do
-    if ! command -v $tool >/dev/null; then
-        echo "skipped: there is no $tool"
-        exit 0
-    fi
-done
-dir=$(mktemp -d) || exit 1
-trap 'rm -rf -- "$dir"' EXIT
-
-# Builds the program where it is not built yet, so that no build is timed.
-"$here/../mnesia_cli" </dev/null 2>"$dir/usage"
-case $? in
-    1) ;;
-    *) cat "$dir/usage" >&2; exit 1 ;;
-esac
+. "$(dirname -- "$0")/prepare.sh"
+needs python3 erl
+built
 
 cat >"$dir/puts.erl" <<'ERL'
 -module(puts).

@@ -1,21 +1,10 @@
 #!/bin/sh
 # How many lines a second the program takes, beside how many bare appends of 60 bytes the machine makes: 100,000 puts
 # over 1,000 keys and as many gets.
-here=$(dirname -- "$(readlink -f -- "$0")")
-if ! command -v python3 >/dev/null; then
-    echo "skipped: there is no python3"
-    exit 0
-fi
-dir=$(mktemp -d) || exit 1
-trap 'rm -rf -- "$dir"' EXIT
+. "$(dirname -- "$0")/prepare.sh"
+needs python3
+built
 mkdir "$dir/data"
-
-# Builds the program where it is not built yet, so that no build is timed.
-"$here/../mnesia_cli" </dev/null 2>"$dir/usage"
-case $? in
-    1) ;;
-    *) cat "$dir/usage" >&2; exit 1 ;;
-esac
 
 python3 - "$here/../mnesia_cli" "$dir" <<'PY'
 import os, subprocess, sys, time

@@ -2,16 +2,9 @@
 # Compares terms with Erlang's: what is printed with ~w, what is written with term_to_binary, and the order with lists:sort, for
 # 1,000 made terms. Then prints how many MB a second are read, printed, encoded and decoded, and how the time grows where one
 # term is made twice as long.
-here=$(dirname -- "$(readlink -f -- "$0")")
+. "$(dirname -- "$0")/prepare.sh"
+needs escript python3
 tool=$here/../crates/term_tool/out/term_tool
-for needed in escript python3; do
-    if ! command -v "$needed" >/dev/null; then
-        echo "skipped: there is no $needed"
-        exit 0
-    fi
-done
-dir=$(mktemp -d) || exit 1
-trap 'rm -rf -- "$dir"' EXIT
 
 # `rt run` proves and builds; with no word the tool does no more than end with status 2.
 if [ ! -x "$tool" ]; then
