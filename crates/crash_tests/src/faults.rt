@@ -49,3 +49,31 @@ fn failed_at_each_call(rt: HostRuntime) -> Result<(), Fail> {
     }
     Ok(())
 }
+
+// A sync that fails and loses what was pending, though later syncs answer Ok, and a stop at each call behind it: what was answered
+// durable is there in each image.
+#[test]
+fn lost_at_each_call(rt: HostRuntime) -> Result<(), Fail> {
+    let count = calls_of_a_run(rt.alloc())?;
+    let steps = longer(rt.alloc())?;
+    for call in 1..=count {
+        for stop in call..=count {
+            let mut disk = MemDisk::new(rt.alloc());
+            disk.lose_at(call)?;
+            disk.stop_after(stop);
+            let (outcome, replies) = ran(rt.alloc(), &mut disk, &steps)?;
+            let mut plain = Plain::new(rt.alloc());
+            assert!(rt;
+                plain.takes_all(rt.alloc(), &steps, &replies)?,
+                "replies at {call} and {stop}"
+            );
+            plain.end(outcome.status == Status::Done)?;
+            assert_eq!(rt;
+                wrong_image(rt.alloc(), &disk, &plain)?,
+                None,
+                "image at {call} and {stop}"
+            );
+        }
+    }
+    Ok(())
+}

@@ -2,55 +2,107 @@
 
 use crate::plain::{Plain, shows_a_front};
 use crate::steps::{GETS, ran};
-use file_mem::{Choice, MemDisk};
+use file_mem::{Choice, Effect, MemDisk, Tail, Taken};
 use file_trait::Disk;
-use std::alloc::Global;
+use std::alloc::{AllocError, Global};
 use std::test::Fail;
 
 const ALL: u64 = u64::MAX;
 
-const EVERYTHING: (u64, u64, u64) = (ALL, ALL, ALL);
+/// What an image has of the operations that are pending.
+#[derive(Clone, Copy, Debug, PartialEq, Eq)]
+pub enum Image {
+    /// The first so many of the directory's, the first so many of each file's, and so many bytes of the next append.
+    Front(u64, u64, u64),
+    /// All, but each append as zeros.
+    Zeros,
+    /// All, but the first append as zeros.
+    FirstAsZeros,
+    /// All, but each append as other bytes.
+    OtherBytes,
+    /// The appends, but no mark.
+    AppendsAlone,
+    /// The marks, but no append.
+    MarksAlone,
+}
 
-// How many of the directory's pending operations an image has, how many of each file's, and how many bytes of the next append.
-const CHOICES: [(u64, u64, u64); 6] = [
-    (0, 0, 0),
+const EVERYTHING: Image = Image::Front(ALL, ALL, ALL);
+
+const IMAGES: [Image; 11] = [
+    Image::Front(0, 0, 0),
     EVERYTHING,
-    (ALL, 0, 0),
-    (0, ALL, ALL),
-    (1, 1, 0),
-    (1, 1, 5),
+    Image::Front(ALL, 0, 0),
+    Image::Front(0, ALL, ALL),
+    Image::Front(1, 1, 0),
+    Image::Front(1, 1, 5),
+    Image::Zeros,
+    Image::FirstAsZeros,
+    Image::OtherBytes,
+    Image::AppendsAlone,
+    Image::MarksAlone,
 ];
 
-// What a run wrote that starts on the chosen image, and asks for all that the table has.
-fn after_a_crash(alloc: Global, disk: &MemDisk, chosen: (u64, u64, u64)) -> Result<Vec<u8>, Fail> {
-    let (dir, ops, bytes) = chosen;
-    let choice = Choice {
-        dir,
-        ops,
-        bytes,
-        own: Vec::new(alloc),
+const WHOLE: Effect = Effect {
+    done: true,
+    tail: Tail::Front(ALL),
+};
+
+// Every operation is done, but each append leaves so many bytes that have this value.
+fn filled(byte: u8) -> Effect {
+    Effect {
+        done: true,
+        tail: Tail::Fill(byte, ALL),
+    }
+}
+
+// The same of each pending operation.
+fn each(alloc: Global, done: bool, tail: Tail) -> Taken {
+    Taken::Each(Vec::new(alloc), Effect { done, tail })
+}
+
+fn taken(alloc: Global, image: Image) -> Result<Taken, AllocError> {
+    match image {
+        Image::Front(_, ops, bytes) => Ok(Taken::Front(ops, bytes)),
+        Image::Zeros => Ok(each(alloc, true, Tail::Fill(0, ALL))),
+        Image::FirstAsZeros => Ok(Taken::Each(vec![in alloc; filled(0)]?, WHOLE)),
+        Image::OtherBytes => Ok(each(alloc, true, Tail::Fill(170, ALL))),
+        Image::AppendsAlone => Ok(each(alloc, false, Tail::Front(ALL))),
+        Image::MarksAlone => Ok(each(alloc, true, Tail::Front(0))),
+    }
+}
+
+fn choice(alloc: Global, image: Image) -> Result<Choice, AllocError> {
+    let dir = match image {
+        Image::Front(dir, _, _) => dir,
+        _ => ALL,
     };
-    let mut image = disk.image(disk.clock(), &choice)?.ok_or("moment")?;
-    let (_, replies) = ran(alloc, &mut image, &GETS)?;
+    Ok(Choice {
+        dir,
+        others: taken(alloc, image)?,
+        own: Vec::new(alloc),
+    })
+}
+
+// What a run wrote that starts on the image, and asks for all that the table has.
+fn after_a_crash(alloc: Global, disk: &MemDisk, image: Image) -> Result<Vec<u8>, Fail> {
+    let choice = choice(alloc, image)?;
+    let mut left = disk.image(disk.clock(), &choice)?.ok_or("moment")?;
+    let (_, replies) = ran(alloc, &mut left, &GETS)?;
     Ok(replies)
 }
 
-/// The first choice, if any, on whose image a start finds no front of the writes that were begun, or one that lacks a durable write,
-/// or an answered one where nothing that is pending was lost.
-pub fn wrong_image(
-    alloc: Global,
-    disk: &MemDisk,
-    plain: &Plain,
-) -> Result<Option<(u64, u64, u64)>, Fail> {
-    for chosen in CHOICES {
-        let least = if chosen == EVERYTHING {
+/// The first image, if any, on which a start finds no front of the writes that were begun, or one that lacks a durable write, or an
+/// answered one where nothing that is pending was lost.
+pub fn wrong_image(alloc: Global, disk: &MemDisk, plain: &Plain) -> Result<Option<Image>, Fail> {
+    for image in IMAGES {
+        let least = if image == EVERYTHING {
             plain.answered
         } else {
             plain.durable
         };
-        let replies = after_a_crash(alloc, disk, chosen)?;
+        let replies = after_a_crash(alloc, disk, image)?;
         if !shows_a_front(alloc, &plain.writes, least, &replies)? {
-            return Ok(Some(chosen));
+            return Ok(Some(image));
         }
     }
     Ok(None)

@@ -1,171 +1,186 @@
--- The calls on a published log, with each answer.
-use Rattle.std.proofs.Common.{◌≡◌, inl, inr, ℕ, Bool, false, ◌&&◌, if◌then◌else◌, List, ◌++◌, length, take, Result, Ok, Err, OnOk, sym, ap, ◌∙◌, subst}
+-- What the calls of a disk do to a log, at each moment.
+use Rattle.std.proofs.Common.{◌≡◌, inl, inr, ℕ, ◌≤◌, Bool, true, false, List, ◌++◌, length, take, Some, Result, Ok, Err, OnOk, refl, sym}
+use Rattle.std.proofs.Common.{subst, arith, length-append}
+use Rattle.std.proofs.Math.Seq.{take-length}
+use Rattle.std.proofs.lemmas.List.{take-append-le}
 use Rattle.file_trait.specs.declared.disk.DiskErr.{DiskErr}
 use Rattle.file_trait.specs.declared.disk.DiskErr.TheVariants.{Failed, Memory}
-use Rattle.file_trait.specs.Calls.{Done, Appended, Synced}
-use Rattle.file_trait.specs.DiskModel.{Past, did, to_file, sync, append, mark}
+use Rattle.file_trait.specs.DiskModel.{Past, did, to_file, sync, sync_failed, append, mark, reads}
+use Rattle.file_trait.specs.Calls.{IsDurable, IsSureOf, Appended, Synced}
 use Rattle.file_trait.specs.Moments.{Moments}
-use Rattle.file_trait.specs.Touched.{Touches}
-use Rattle.file_trait.proofs.Moments.{none_done, one_done, then_done, weaker}
-use Rattle.file_trait.proofs.Shown.{shown_crash}
-use Rattle.file_trait.proofs.Touched.{then_touched}
-use Rattle.log_items.specs.Items.{wire, AreContents}
+use Rattle.file_trait.proofs.Changes.{sync_failed_adds_none}
+use Rattle.file_trait.proofs.Files.{file_changed}
+use Rattle.file_trait.proofs.Moments.{none_done, one_done, then_done}
+use Rattle.log_items.specs.Items.{wire, log_bytes, AreContents, HasItems}
 use Rattle.disk_logs.specs.declared.error.LogErr.{LogErr}
-use Rattle.disk_logs.specs.Crash.{HasPrefix, LogStands, Stands, LogLeaves}
-use Rattle.disk_logs.specs.Errors.{told}
-use Rattle.disk_logs.specs.Logs.{Handle, draft_name, file_of, with_mark, mark_bytes}
-use Rattle.disk_logs.proofs.Effects.{done_ok}
-use Rattle.disk_logs.proofs.Standing.{stands_leaves, leaves_more, leaves_fewer, synced_within, marked, part_appended, appended, all_synced, was_synced}
+use Rattle.disk_logs.specs.declared.error.LogErr.TheVariants.{File, Bad, TooLong}
+use Rattle.disk_logs.specs.Logs.{mark_bytes, SetsMark}
+use Rattle.disk_logs.specs.Crash.{HasPrefix, LogStands, IsSound, LogLeaves, IsSafe}
+use Rattle.disk_logs.proofs.Runs.{has_fewer}
+use Rattle.disk_logs.proofs.Sound.{open_sound, stands_sound}
+use Rattle.disk_logs.proofs.Standing.{stands_leaves, appended, part_appended, all_synced, was_synced, synced_durable, sure_synced}
+use Rattle.disk_logs.proofs.Standing.{sure_changed, not_synced, at_least, closed, opening_leaves, opening_read, opening_sure, opened}
+use Rattle.disk_logs.proofs.Standing.{opened_traceless, fewer_synced}
 
--- the file that is held is the one with the log's name
-at_name : (at : List ℕ) (log : Handle) → at ≡ file_of log → log.draft ≡ false → at ≡ log.name
-at_name at log same is = same ∙ ap (λ d. if d then draft_name log.name else log.name) is
-
--- ---- a mark that is set
-
-marks_moments : (name : List ℕ) (was closed : Bool) (items : List (List ℕ)) (synced : ℕ) (r : Result Unit DiskErr) (old new : Past) → LogStands old name was items synced
-    → Done (to_file name (mark (mark_bytes closed))) r old new → Moments (LogLeaves name items synced) old new
-marks_moments name was closed items synced r old new h is = go r is
+leaves_more : (name : List ℕ) (items more : List (List ℕ)) (synced : ℕ) (past : Past) → LogLeaves name items synced past
+    → LogLeaves name (items ++ more) synced past
+leaves_more name items more synced past h image w = let r = h image w in (r.0, r.1, grown r.0 r.2)
   where
-    before : LogLeaves name items synced old
-    before = stands_leaves old name was items synced h
+    grown : (bytes : List ℕ) → HasPrefix items synced bytes → HasPrefix (items ++ more) synced bytes
+    grown bytes (n, low, high, is) =
+        (n, low, omega (arith, high, length-append items more), subst (HasItems bytes) (sym (take-append-le n items more high)) is)
 
-    set : new ≡ did (to_file name (mark (mark_bytes closed))) old → Moments (LogLeaves name items synced) old new
-    set now = one_done (LogLeaves name items synced) (to_file name (mark (mark_bytes closed))) old new now before
-        (stands_leaves (did (to_file name (mark (mark_bytes closed))) old) name closed items synced (marked old name was closed items synced h))
+pub safe_more : (name : List ℕ) (items more : List (List ℕ)) (synced : ℕ) (past : Past) → IsSafe name items synced past
+    → IsSafe name (items ++ more) synced past
+safe_more name items more synced past (leaves, sound) = (leaves_more name items more synced past leaves, sound)
 
-    go : (r : Result Unit DiskErr) → Done (to_file name (mark (mark_bytes closed))) r old new → Moments (LogLeaves name items synced) old new
-    go (Ok x) now = set now
-    go (Err Failed) (inl same) = none_done (LogLeaves name items synced) old new same before
-    go (Err Failed) (inr now) = set now
-    go (Err Memory) same = none_done (LogLeaves name items synced) old new same before
+-- a log that stands, with at least so many items synced
+pub safe : (past : Past) (name : List ℕ) (closed : Bool) (items : List (List ℕ)) (synced less : ℕ) → less ≤ synced
+    → LogStands past name closed items synced → IsSafe name items less past
+safe past name closed items synced less le h =
+    let now = fewer_synced past name closed items synced less le h in
+    (stands_leaves past name closed items less now, stands_sound past name closed items less now)
 
-pub mark_moments : (at four : List ℕ) (closed : Bool) (items : List (List ℕ)) (synced : ℕ) (r : Result Unit DiskErr) (old new : Past) (log : Handle) → at ≡ file_of log → four ≡ mark_bytes closed
-    → Stands old log items synced → Done (to_file at (mark four)) r old new → Moments (LogLeaves log.name items synced) old new
-mark_moments at four closed items synced r old new log same set (is, h) done =
-    marks_moments log.name log.closed closed items synced r old new h
-    (subst (λ f. Done (to_file log.name (mark f)) r old new) set (subst (λ n. Done (to_file n (mark four)) r old new) (at_name at log same is) done))
+-- ---- each call, with each answer
 
-pub mark_stands : (at four : List ℕ) (closed : Bool) (items : List (List ℕ)) (synced : ℕ) (r : Result Unit DiskErr) (t : Result Unit LogErr) (x : Unit {0}) (old new : Past) (log now : Handle)
-    → at ≡ file_of log → four ≡ mark_bytes closed → now ≡ with_mark closed log → Stands old log items synced → t ≡ told at r → t ≡ Ok x → Done (to_file at (mark four)) r old new
-    → Stands new now items synced
-mark_stands at four closed items synced r t x old new log now same set marked_now (is, h) told_so ok done =
-    let here : new ≡ did (to_file log.name (mark (mark_bytes closed))) old =
-    done_ok (to_file at (mark four)) at r t x old new told_so ok done ∙ ap (λ n. did (to_file n (mark four)) old) (at_name at log same is) ∙ ap (λ f. did (to_file log.name (mark f)) old) set in
-    subst (λ l. Stands new l items synced) (sym marked_now)
-    (is, subst (λ past. LogStands past log.name closed items synced) (sym here) (marked old log.name log.closed closed items synced h))
+pub sync_each : (P : Past → Type 0) (name : List ℕ) (r : Result Unit DiskErr) (old new : Past) → P old → P (did (sync name) old)
+    → P (did (sync_failed name) old) → Synced name r old new → Moments P old new
+sync_each P name (Ok x) old new before done failed (inl is) = one_done P (sync name) old new is before done
+sync_each P name (Ok x) old new before done failed (inr (is, durable)) = none_done P old new is before
+sync_each P name (Err Failed) old new before done failed (inl is) = none_done P old new is before
+sync_each P name (Err Failed) old new before done failed (inr (inl is)) = one_done P (sync name) old new is before done
+sync_each P name (Err Failed) old new before done failed (inr (inr is)) = one_done P (sync_failed name) old new is before failed
+sync_each P name (Err Memory) old new before done failed never = absurd never
 
--- ---- an append
+append_each : (P : Past → Type 0) (name bytes : List ℕ) (r : Result Unit DiskErr) (old new : Past) → P old
+    → ((k : ℕ) → P (did (to_file name (append (take k bytes))) old)) → Appended name bytes r old new → Moments P old new
+append_each P name bytes (Ok x) old new before part is =
+    one_done P (to_file name (append bytes)) old new is before
+    (subst (λ b. P (did (to_file name (append b)) old)) (take-length bytes) (part (length bytes)))
+append_each P name bytes (Err Failed) old new before part (inl is) = none_done P old new is before
+append_each P name bytes (Err Failed) old new before part (inr (k, le, is)) =
+    one_done P (to_file name (append (take k bytes))) old new is before (part k)
+append_each P name bytes (Err Memory) old new before part is = none_done P old new is before
 
-appends_moments : (name : List ℕ) (items more : List (List ℕ)) (synced : ℕ) (r : Result Unit DiskErr) (old new : Past) → AreContents more → LogStands old name false items synced
-    → Appended name (wire more) r old new → Moments (LogLeaves name (items ++ more) synced) old new
-appends_moments name items more synced r old new also h is = go r is
-  where
-    before : LogLeaves name (items ++ more) synced old
-    before = leaves_more name items more synced old (stands_leaves old name false items synced h)
+module _ (P : Past → Type 0) (name : List ℕ) (closed : Bool) (old new : Past) where
+  abbrev pub marked : Past
+  marked = did (to_file name (mark (mark_bytes closed))) old
 
-    go : (r : Result Unit DiskErr) → Appended name (wire more) r old new → Moments (LogLeaves name (items ++ more) synced) old new
-    go (Ok x) now = one_done (LogLeaves name (items ++ more) synced) (to_file name (append (wire more))) old new now before
-        (stands_leaves (did (to_file name (append (wire more))) old) name false (items ++ more) synced (appended old name items more synced also h))
-    go (Err Failed) (inl same) = none_done (LogLeaves name (items ++ more) synced) old new same before
-    go (Err Failed) (inr (k, le, now)) = one_done (LogLeaves name (items ++ more) synced) (to_file name (append (take k (wire more)))) old new now before
-        (shown_crash (did (to_file name (append (take k (wire more)))) old) name (HasPrefix (items ++ more) synced) (part_appended old name items more synced also h k le))
-    go (Err Memory) same = none_done (LogLeaves name (items ++ more) synced) old new same before
+  then_synced : (r : Result Unit DiskErr) → P old → P marked → P (did (sync name) marked) → P (did (sync_failed name) marked)
+      → Synced name r marked new → Moments P old new
+  then_synced r before set done failed is =
+      then_done P old marked new (one_done P (to_file name (mark (mark_bytes closed))) old marked refl before set)
+      (sync_each P name r marked new set done failed is)
 
--- a published log that grows is open
-open_now : (log now : Handle) (closed : Bool) → now ≡ with_mark closed log → closed ≡ (log.draft && log.closed) → now.draft ≡ false → now.closed ≡ false
-open_now log now closed marked_now set is =
-    let published : log.draft ≡ false = sym (ap (λ (l : Handle). l.draft) marked_now) ∙ is in
-    ap (λ (l : Handle). l.closed) marked_now ∙ set ∙ ap (λ d. d && log.closed) published
-
-pub marked_moments : (name : List ℕ) (items more : List (List ℕ)) (synced : ℕ) (old new : Past) → Moments (LogLeaves name items synced) old new → Moments (LogLeaves name (items ++ more) synced) old new
-marked_moments name items more synced old new h = weaker (LogLeaves name items synced) (LogLeaves name (items ++ more) synced) old new (leaves_more name items more synced) h
-
-pub append_moments : (at bytes : List ℕ) (items more : List (List ℕ)) (synced : ℕ) (r : Result Unit DiskErr) (old mid new : Past) (log now : Handle) (closed : Bool) → at ≡ file_of now
-    → bytes ≡ wire more → AreContents more → now ≡ with_mark closed log → closed ≡ (log.draft && log.closed) → Moments (LogLeaves log.name items synced) old mid → Stands mid now items synced
-    → Appended at bytes r mid new → Moments (LogLeaves log.name (items ++ more) synced) old new
-append_moments at bytes items more synced r old mid new log now closed same all also marked_now set so_far (is, h) done =
-    then_done (LogLeaves log.name (items ++ more) synced) old mid new (marked_moments log.name items more synced old mid so_far)
-    (subst (λ n. Moments (LogLeaves n (items ++ more) synced) mid new) (ap (λ (l : Handle). l.name) marked_now)
-    (appends_moments now.name items more synced r mid new also (subst (λ c. LogStands mid now.name c items synced) (open_now log now closed marked_now set is) h)
-    (subst (λ b. Appended now.name b r mid new) all (subst (λ n. Appended n bytes r mid new) (at_name at now same is) done))))
-
--- memory was wanting, so that nothing was appended
-pub wanted_moments : (at bytes name : List ℕ) (items : List (List ℕ)) (synced : ℕ) (r : Result Unit DiskErr) (t : Result Unit LogErr) (old mid new : Past) → t ≡ told at r → t ≡ Err LogErr.Memory
-    → Appended at bytes r mid new → Moments (LogLeaves name items synced) old mid → Moments (LogLeaves name items synced) old new
-wanted_moments at bytes name items synced (Ok x) t old mid new told_so wanted done so_far = absurd (cc (told_so, wanted))
-wanted_moments at bytes name items synced (Err Failed) t old mid new told_so wanted done so_far = absurd (cc (told_so, wanted))
-wanted_moments at bytes name items synced (Err Memory) t old mid new told_so wanted same so_far = subst (λ (past : Past). Moments (LogLeaves name items synced) old past) (sym same) so_far
-
-pub append_stands : (at bytes : List ℕ) (items more : List (List ℕ)) (synced : ℕ) (r : Result Unit DiskErr) (t : Result Unit LogErr) (mid new : Past) (log now : Handle) (closed : Bool) → at ≡ file_of now
-    → bytes ≡ wire more → AreContents more → now ≡ with_mark closed log → closed ≡ (log.draft && log.closed) → Stands mid now items synced → t ≡ told at r → Appended at bytes r mid new
-    → OnOk t (Stands new now (items ++ more) synced)
-append_stands at bytes items more synced r t mid new log now closed same all also marked_now set (is, h) told_so done =
-    subst (λ a. OnOk a (Stands new now (items ++ more) synced)) (sym told_so) (go r done)
-  where
-    opened : now.closed ≡ false
-    opened = open_now log now closed marked_now set is
-
-    put : new ≡ did (to_file at (append bytes)) mid → Stands new now (items ++ more) synced
-    put here =
-        let at_log : new ≡ did (to_file now.name (append (wire more))) mid =
-        here ∙ ap (λ n. did (to_file n (append bytes)) mid) (at_name at now same is) ∙ ap (λ b. did (to_file now.name (append b)) mid) all in (
-          is,
-          subst (λ c. LogStands new now.name c (items ++ more) synced) (sym opened)
-              (subst (λ past. LogStands past now.name false (items ++ more) synced) (sym at_log)
-              (appended mid now.name items more synced also (subst (λ c. LogStands mid now.name c items synced) opened h))),
-        )
-
-    go : (r : Result Unit DiskErr) → Appended at bytes r mid new → OnOk (told at r) (Stands new now (items ++ more) synced)
-    go (Ok x) here = put here
-    go (Err Failed) here = tt
-    go (Err Memory) here = tt
+  set_each : (r : Result Unit LogErr) → P old → P marked → P (did (sync name) marked) → P (did (sync_failed name) marked)
+      → SetsMark name closed r old new → Moments P old new
+  set_each (Ok x) before set done failed is = then_synced (Ok tt) before set done failed is
+  set_each (Err (File at)) before set done failed (inl is) = none_done P old new is before
+  set_each (Err (File at)) before set done failed (inr is) = then_synced (Err Failed) before set done failed is
+  set_each (Err (Bad at place)) before set done failed never = absurd never
+  set_each (Err TooLong) before set done failed never = absurd never
+  set_each (Err LogErr.Memory) before set done failed is = none_done P old new is before
 
 -- ---- a sync
 
-syncs_moments : (name : List ℕ) (closed : Bool) (items : List (List ℕ)) (synced : ℕ) (r : Result Unit DiskErr) (old new : Past) → LogStands old name closed items synced
-    → Synced name r old new → Moments (LogLeaves name items synced) old new
-syncs_moments name closed items synced r old new h is = go r is
-  where
-    before : LogLeaves name items synced old
-    before = stands_leaves old name closed items synced h
+module _ (name : List ℕ) (closed : Bool) (items : List (List ℕ)) (synced : ℕ) (old new : Past)
+    (h : LogStands old name closed items synced) where
+  pub sync_moments : (r : Result Unit DiskErr) → Synced name r old new → Moments (λ past. LogStands past name closed items synced) old new
+  sync_moments r done =
+      sync_each (λ past. LogStands past name closed items synced) name r old new h (at_least old name name closed items synced h)
+      (not_synced old name closed items synced h name) done
 
-    did_sync : new ≡ did (sync name) old → Moments (LogLeaves name items synced) old new
-    did_sync now = one_done (LogLeaves name items synced) (sync name) old new now before
-        (leaves_fewer name items (length items) synced (did (sync name) old) (synced_within old name closed items synced h)
-        (stands_leaves (did (sync name) old) name closed items (length items) (all_synced old name closed items synced h)))
+  -- where it is sure and answered well, all is durable
+  pub sync_all : (x : Unit {0}) → IsSureOf old name → Synced name (Ok x) old new
+      → LogStands new name closed items (length items) × IsSureOf new name × IsDurable new name
+  sync_all x sure (inl is) = (
+    subst (λ p. LogStands p name closed items (length items)) (sym is) (all_synced old name closed items synced h sure),
+    subst (λ p. IsSureOf p name) (sym is) (sure_synced old name sure),
+    subst (λ p. IsDurable p name) (sym is) (synced_durable old name sure),
+  )
+  sync_all x sure (inr (is, durable)) = (
+    subst (λ p. LogStands p name closed items (length items)) (sym is) (was_synced old name closed items synced h durable),
+    subst (λ p. IsSureOf p name) (sym is) sure,
+    subst (λ p. IsDurable p name) (sym is) durable,
+  )
 
-    go : (r : Result Unit DiskErr) → Synced name r old new → Moments (LogLeaves name items synced) old new
-    go (Ok x) (inl now) = did_sync now
-    go (Ok x) (inr same) = none_done (LogLeaves name items synced) old new same.0 before
-    go (Err Failed) (inl same) = none_done (LogLeaves name items synced) old new same before
-    go (Err Failed) (inr now) = did_sync now
-    go (Err Memory) never = absurd never
+-- ---- an append to an open log
 
-pub sync_moments : (at : List ℕ) (items : List (List ℕ)) (synced : ℕ) (r : Result Unit DiskErr) (old new : Past) (log : Handle) → at ≡ file_of log → Stands old log items synced
-    → Synced at r old new → Moments (LogLeaves log.name items synced) old new
-sync_moments at items synced r old new log same (is, h) done =
-    syncs_moments log.name log.closed items synced r old new h (subst (λ n. Synced n r old new) (at_name at log same is) done)
+module _ (name : List ℕ) (items more : List (List ℕ)) (synced : ℕ) (old new : Past) (fit : AreContents more)
+    (h : LogStands old name false items synced) where
+  pub append_ok : (x : Unit {0}) → Appended name (wire more) (Ok x) old new → LogStands new name false (items ++ more) synced
+  append_ok x is = subst (λ p. LogStands p name false (items ++ more) synced) (sym is) (appended old name items more synced fit h)
 
-pub sync_stands : (at : List ℕ) (items : List (List ℕ)) (synced : ℕ) (r : Result Unit DiskErr) (t : Result Unit LogErr) (old new : Past) (log : Handle) → at ≡ file_of log
-    → Stands old log items synced → t ≡ told at r → Synced at r old new → OnOk t (Stands new log items (length items))
-sync_stands at items synced r t old new log same (is, h) told_so done =
-    subst (λ a. OnOk a (Stands new log items (length items))) (sym told_so) (go r (subst (λ n. Synced n r old new) (at_name at log same is) done))
-  where
-    go : (r : Result Unit DiskErr) → Synced log.name r old new → OnOk (told at r) (Stands new log items (length items))
-    go (Ok x) (inl now) = (is, subst (λ past. LogStands past log.name log.closed items (length items)) (sym now) (all_synced old log.name log.closed items synced h))
-    go (Ok x) (inr (now, durable)) = (is, subst (λ past. LogStands past log.name log.closed items (length items)) (sym now) (was_synced old log.name log.closed items synced h durable))
-    go (Err Failed) here = tt
-    go (Err Memory) here = tt
+  pub append_moments : (r : Result Unit DiskErr) → Appended name (wire more) r old new
+      → Moments (IsSafe name (items ++ more) synced) old new
+  append_moments r done =
+      append_each (IsSafe name (items ++ more) synced) name (wire more) r old new
+      (safe_more name items more synced old (safe old name false items synced synced (omega arith) h))
+      (λ k. (part_appended old name items more synced fit h k, still_open k)) done
+    where
+      still_open : (k : ℕ) → IsSound (did (to_file name (append (take k (wire more)))) old) name
+      still_open k = open_sound (did (to_file name (append (take k (wire more)))) old) name (wire items ++ take k (wire more))
+          (file_changed old name (append (take k (wire more))) (log_bytes false items) h.read)
 
--- ---- one act behind another
+-- ---- a mark, set over a log that is closed or durable, and synced
 
-pub then_moments : (items : List (List ℕ)) (synced : ℕ) (old mid new : Past) (log now : Handle) (closed : Bool) → now ≡ with_mark closed log → Moments (LogLeaves log.name items synced) old mid
-    → Moments (LogLeaves now.name items synced) mid new → Moments (LogLeaves log.name items synced) old new
-then_moments items synced old mid new log now closed marked_now before after =
-    then_done (LogLeaves log.name items synced) old mid new before (subst (λ n. Moments (LogLeaves n items synced) mid new) (ap (λ (l : Handle). l.name) marked_now) after)
+module _ (name : List ℕ) (items : List (List ℕ)) (synced : ℕ) (old new : Past) (h : LogStands old name true items synced) where
+  abbrev marked_open : Past
+  marked_open = did (to_file name (mark (mark_bytes false))) old
 
-pub closed_touches : (old mid new : Past) (log now : Handle) (closed : Bool) → now ≡ with_mark closed log → Touches (λ n. n ≡ file_of log) old mid → Touches (λ n. n ≡ file_of now) mid new
-    → Touches (λ n. n ≡ file_of log) old new
-closed_touches old mid new log now closed marked_now before after =
-    then_touched (λ n. n ≡ file_of log) old mid new before (subst (λ f. Touches (λ n. n ≡ f) mid new) (ap file_of marked_now) after)
+  pub opening_ok : (r : Result Unit LogErr) → SetsMark name false r old new
+      → OnOk r (LogStands new name false items synced × IsSureOf new name)
+  opening_ok (Ok x) (inl is) = (
+    subst (λ p. LogStands p name false items synced) (sym is)
+        (fewer_synced _ name false items (length items) synced h.within (opened old name items synced h)),
+    subst (λ p. IsSureOf p name) (sym is) (sure_synced marked_open name (opening_sure old name items synced h)),
+  )
+  opening_ok (Ok x) (inr (is, durable)) = (
+    subst (λ p. LogStands p name false items synced) (sym is)
+        (fewer_synced marked_open name false items (length items) synced h.within (opened_traceless old name items synced h durable)),
+    subst (λ p. IsSureOf p name) (sym is) (opening_sure old name items synced h),
+  )
+  opening_ok (Err e) done = tt
+
+  pub opening_moments : (r : Result Unit LogErr) → SetsMark name false r old new → Moments (IsSafe name items synced) old new
+  opening_moments r done =
+      set_each (IsSafe name items synced) name false old new r (safe old name true items synced synced (omega arith) h)
+      (marked_leaves, reads_open marked_open read)
+      (safe (did (sync name) marked_open) name false items (length items) synced h.within (opened old name items synced h)) (
+        (λ image w. marked_leaves image (sync_failed_adds_none marked_open name image w)),
+        reads_open (did (sync_failed name) marked_open) read,
+      ) done
+    where
+      read : reads marked_open name ≡ Some (log_bytes false items)
+      read = opening_read old name items synced h
+
+      reads_open : (past : Past) → reads past name ≡ Some (log_bytes false items) → IsSound past name
+      reads_open past is = open_sound past name (wire items) is
+
+      marked_leaves : LogLeaves name items synced marked_open
+      marked_leaves image w = let r = opening_leaves old name items synced h image w in
+          (r.0, r.1, has_fewer items (length items) synced r.0 h.within r.2)
+
+module _ (name : List ℕ) (items : List (List ℕ)) (synced : ℕ) (old new : Past) (h : LogStands old name false items synced)
+    (durable : IsDurable old name) where
+  abbrev marked_closed : Past
+  marked_closed = did (to_file name (mark (mark_bytes true))) old
+
+  now_closed : LogStands marked_closed name true items (length items)
+  now_closed = closed old name items synced h durable
+
+  pub closing_ok : (r : Result Unit LogErr) → IsSureOf old name → SetsMark name true r old new
+      → OnOk r (LogStands new name true items (length items) × IsDurable new name)
+  closing_ok (Ok x) sure done =
+      let all = sync_all name true items (length items) marked_closed new now_closed tt
+      (sure_changed old name (mark (mark_bytes true)) sure) done in (all.0, all.2)
+  closing_ok (Err e) sure done = tt
+
+  pub closing_moments : (r : Result Unit LogErr) → SetsMark name true r old new → Moments (IsSafe name items synced) old new
+  closing_moments r done =
+      set_each (IsSafe name items synced) name true old new r (safe old name false items synced synced (omega arith) h)
+      (safe marked_closed name true items (length items) synced h.within now_closed)
+      (safe (did (sync name) marked_closed) name true items (length items) synced h.within
+      (at_least marked_closed name name true items (length items) now_closed))
+      (safe (did (sync_failed name) marked_closed) name true items (length items) synced h.within
+      (not_synced marked_closed name true items (length items) now_closed name)) done

@@ -4,10 +4,8 @@ use Rattle.std.proofs.lemmas.List.{append-nil}
 use Rattle.std.proofs.lemmas.List.Elements.{All-nil, All-cons}
 use Rattle.file_trait.specs.DiskModel.{Past, reads}
 use Rattle.file_trait.specs.Calls.{IsThere}
-use Rattle.log_items.specs.Items.{item_bytes, log_bytes, IsContent, AreContents, HasItems}
-use Rattle.log_items.proofs.Unique.{written}
-use Rattle.disk_logs.specs.Chunks.{HasPlace}
-use Rattle.disk_logs.specs.Logs.{Handle, draft_name, file_of, opened, IsLog, AreItems, IsMoved, Finds}
+use Rattle.log_items.specs.Items.{item_bytes, log_bytes, IsContent, AreContents}
+use Rattle.disk_logs.specs.Logs.{Handle, draft_name, file_of, opened, IsLog, AreItems, IsMoved}
 
 -- a draft that was published
 pub published_log : (past_old past_new : Past) (draft log : Handle) (name : List ℕ) (all : List (List ℕ)) → draft ≡ record { name = name; draft = true; closed = true }
@@ -43,10 +41,3 @@ one_item bytes before content fit none is =
 pub synced_log : {T E : Type 0} (r : Result T E) (past new : Past) (log now : Handle) → IsLog past log → now ≡ log → ((other : List ℕ) → reads new other ≡ reads past other) → OnOk r (IsLog new now)
 synced_log (Err e) past new log now is same kept = tt
 synced_log (Ok x) past new log now (all, here) same kept = subst (IsLog new) (sym same) (all, kept (file_of log) ∙ here)
-
--- the items of a log that was resumed begin behind its head
-pub first_place : {T : Type 0} (past now : Past) (name : List ℕ) (found : Option T) (log : T) → found ≡ Some log → Finds (Ok found) (reads past name)
-    → ((bytes : List ℕ) (items : List (List ℕ)) → reads past name ≡ Some bytes → HasItems bytes items → reads now name ≡ Some (log_bytes false items)) → HasPlace now name 8
-first_place past now name found log is finds whole =
-    let (bytes, items, here, has) = subst (λ f. Finds (Ok f) (reads past name)) is finds in
-    (log_bytes false items, items, 0, whole bytes items here has, ((false, written false items has.1.fit), refl))

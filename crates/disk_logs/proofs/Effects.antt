@@ -2,7 +2,7 @@
 use Rattle.std.proofs.Common.{◌≡◌, ◌≢◌, inl, inr, ℕ, List, take, Result, Ok, Err, OnErr, sym, ap, ◌∙◌, subst}
 use Rattle.file_trait.specs.declared.disk.DiskErr.{DiskErr}
 use Rattle.file_trait.specs.declared.disk.DiskErr.TheVariants.{Failed, Memory}
-use Rattle.file_trait.specs.DiskModel.{Past, did, DiskOp, FileOp, to_file, to_dir, append, create, reads}
+use Rattle.file_trait.specs.DiskModel.{Past, did, DiskOp, FileOp, to_file, append, reads}
 use Rattle.file_trait.specs.Calls.{Done, Appended, Synced, SyncedDir}
 use Rattle.file_trait.proofs.Files.{reads_other}
 use Rattle.disk_logs.specs.declared.error.LogErr.{LogErr}
@@ -14,33 +14,28 @@ on_err (Err e) p = p
 
 -- ---- files that a call was not given read as before
 
-pub kept_file : (past : Past) (name : List ℕ) (op : FileOp) (other : List ℕ) → other ≢ name → reads (did (to_file name op) past) other ≡ reads past other
+pub kept_file : (past : Past) (name : List ℕ) (op : FileOp) (other : List ℕ) → other ≢ name
+    → reads (did (to_file name op) past) other ≡ reads past other
 kept_file past name op other apart = reads_other past (to_file name op) other (λ is. apart (sym is))
-
-pub kept_create : (past : Past) (name other : List ℕ) → other ≢ name → reads (did (to_dir (create name)) past) other ≡ reads past other
-kept_create past name other apart = reads_other past (to_dir (create name)) other (λ is. apart (sym is))
 
 -- ---- with each answer
 
-pub done_kept : (op : DiskOp) (r : Result Unit DiskErr) (old new : Past) (other : List ℕ) → reads (did op old) other ≡ reads old other → Done op r old new
-    → reads new other ≡ reads old other
-done_kept op (Ok x) old new other kept is = ap (λ p. reads p other) is ∙ kept
-done_kept op (Err Failed) old new other kept (inl is) = ap (λ p. reads p other) is
-done_kept op (Err Failed) old new other kept (inr is) = ap (λ p. reads p other) is ∙ kept
-done_kept op (Err Memory) old new other kept is = ap (λ p. reads p other) is
-
-pub appended_kept : (name bytes : List ℕ) (r : Result Unit DiskErr) (old new : Past) (other : List ℕ) → other ≢ name → Appended name bytes r old new
+pub appended_kept : (name bytes : List ℕ) (r : Result Unit DiskErr) (old new : Past) (other : List ℕ) → other ≢ name
+    → Appended name bytes r old new
     → reads new other ≡ reads old other
 appended_kept name bytes (Ok x) old new other apart is = ap (λ p. reads p other) is ∙ kept_file old name (append bytes) other apart
 appended_kept name bytes (Err Failed) old new other apart (inl is) = ap (λ p. reads p other) is
-appended_kept name bytes (Err Failed) old new other apart (inr (k, le, is)) = ap (λ p. reads p other) is ∙ kept_file old name (append (take k bytes)) other apart
+appended_kept name bytes (Err Failed) old new other apart (inr (k, le, is)) =
+    ap (λ p. reads p other) is ∙ kept_file old name (append (take k bytes)) other apart
 appended_kept name bytes (Err Memory) old new other apart is = ap (λ p. reads p other) is
 
-pub synced_kept : (name : List ℕ) (r : Result Unit DiskErr) (old new : Past) (other : List ℕ) → Synced name r old new → reads new other ≡ reads old other
+pub synced_kept : (name : List ℕ) (r : Result Unit DiskErr) (old new : Past) (other : List ℕ) → Synced name r old new
+    → reads new other ≡ reads old other
 synced_kept name (Ok x) old new other (inl is) = ap (λ p. reads p other) is
 synced_kept name (Ok x) old new other (inr is) = ap (λ p. reads p other) is.0
 synced_kept name (Err Failed) old new other (inl is) = ap (λ p. reads p other) is
-synced_kept name (Err Failed) old new other (inr is) = ap (λ p. reads p other) is
+synced_kept name (Err Failed) old new other (inr (inl is)) = ap (λ p. reads p other) is
+synced_kept name (Err Failed) old new other (inr (inr is)) = ap (λ p. reads p other) is
 synced_kept name (Err Memory) old new other is = absurd is
 
 pub synced_dir_kept : (r : Result Unit DiskErr) (old new : Past) (other : List ℕ) → SyncedDir r old new → reads new other ≡ reads old other
@@ -57,11 +52,15 @@ told_ok name (Ok y) x is = cc is
 told_ok name (Err Failed) x is = cc is
 told_ok name (Err Memory) x is = cc is
 
-pub done_ok : (op : DiskOp) (name : List ℕ) (r : Result Unit DiskErr) (t : Result Unit LogErr) (x : Unit {0}) (old new : Past) → t ≡ told name r → t ≡ Ok x
+pub done_ok : (op : DiskOp) (name : List ℕ) (r : Result Unit DiskErr) (t : Result Unit LogErr) (x : Unit {0}) (old new : Past)
+    → t ≡ told name r → t ≡ Ok x
     → Done op r old new → new ≡ did op old
-done_ok op name r t x old new told_so is = subst (λ a. Done op a old new → new ≡ did op old) (sym (told_ok name r x (sym told_so ∙ is))) (λ done. done)
+done_ok op name r t x old new told_so is =
+    subst (λ a. Done op a old new → new ≡ did op old) (sym (told_ok name r x (sym told_so ∙ is))) (λ done. done)
 
-pub appended_ok : (file bytes name : List ℕ) (r : Result Unit DiskErr) (t : Result Unit LogErr) (x : Unit {0}) (old new : Past) → t ≡ told name r → t ≡ Ok x
+pub appended_ok : (file bytes name : List ℕ) (r : Result Unit DiskErr) (t : Result Unit LogErr) (x : Unit {0}) (old new : Past)
+    → t ≡ told name r → t ≡ Ok x
     → Appended file bytes r old new → new ≡ did (to_file file (append bytes)) old
 appended_ok file bytes name r t x old new told_so is =
-    subst (λ a. Appended file bytes a old new → new ≡ did (to_file file (append bytes)) old) (sym (told_ok name r x (sym told_so ∙ is))) (λ done. done)
+    subst (λ a. Appended file bytes a old new → new ≡ did (to_file file (append bytes)) old) (sym (told_ok name r x (sym told_so ∙ is)))
+    (λ done. done)

@@ -1,13 +1,13 @@
 pub mod Acts
 pub mod Appends
 pub mod CallerLemmas
-pub mod Checked
-pub mod ChunkLemmas
 pub mod Drafts
 pub mod Effects
 pub mod Frames
-pub mod Prefixes
+pub mod Handles
 pub mod Publishing
 pub mod ReadLemmas
-pub mod Repairs
+pub mod Renewing
+pub mod Runs
+pub mod Sound
 pub mod Standing

@@ -1,4 +1,3 @@
-pub mod Chunks
 pub mod Crash
 pub mod Errors
 pub mod Logs

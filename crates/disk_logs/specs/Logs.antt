@@ -1,9 +1,11 @@
 -- Logs, and what the calls on them do to their files.
-use Rattle.std.specs.Prelude.{◌≡◌, ◌⊎◌, ℕ, ◌<◌, ◌≤◌, Bool, true, false, ◌&&◌, if◌then◌else◌, List, [], ◌∷◌, ◌++◌, length, take, Option, None, Some, Result, Ok, Err}
-use Rattle.file_trait.specs.DiskModel.{Past, reads}
+use Rattle.std.specs.Prelude.{◌≡◌, ◌⊎◌, ℕ, ◌<◌, ◌≤◌, Bool, true, false, not, ◌&&◌, if◌then◌else◌, List, [], ◌∷◌, ◌++◌, length, take, Option, None, Some, Result, Ok, Err}
+use Rattle.file_trait.specs.declared.disk.DiskErr.TheVariants.{Failed}
+use Rattle.file_trait.specs.DiskModel.{Past, did, to_file, mark, reads}
+use Rattle.file_trait.specs.Calls.{Synced}
 use Rattle.disk_logs.specs.declared.error.LogErr.{LogErr}
 use Rattle.disk_logs.specs.declared.error.LogErr.TheVariants.{File, Bad, TooLong, Memory}
-use Rattle.log_items.specs.Items.{wire, log_bytes, AreContents, HasItems}
+use Rattle.log_items.specs.Items.{wire, log_bytes, AreContents, IsFile}
 use Rattle.log_items.specs.Scan.{IsBadAt}
 
 -- a log: the name that it has or will have, whether its file is a draft, and whether its mark says closed
@@ -61,6 +63,14 @@ abbrev pub mark_bytes : Bool → List ℕ
 mark_bytes true = 99 ∷ 88 ∷ 77 ∷ 11 ∷ []
 mark_bytes false = 6 ∷ 7 ∷ 8 ∷ 9 ∷ []
 
+-- what was done where a mark is set and then synced: where one of them failed, as much as was done
+abbrev pub SetsMark : {T : Type 0} → List ℕ → Bool → Result T LogErr → Past → Past → Type 0
+SetsMark name closed (Ok done) old new = Synced name (Ok tt) (did (to_file name (mark (mark_bytes closed))) old) new
+SetsMark name closed (Err (File at)) old new = (new ≡ old) ⊎ Synced name (Err Failed) (did (to_file name (mark (mark_bytes closed))) old) new
+SetsMark name closed (Err (Bad at place)) old new = ⊥
+SetsMark name closed (Err TooLong) old new = ⊥
+SetsMark name closed (Err Memory) old new = new ≡ old
+
 -- both names read as before
 abbrev pub IsKept : List ℕ → List ℕ → Past → Past → Type 0
 IsKept from to old new = (reads new from ≡ reads old from) × (reads new to ≡ reads old to)
@@ -73,20 +83,21 @@ IsMoved from to old new = (reads new to ≡ reads old from) × (reads new from �
 abbrev pub HasPart : List ℕ → Option (List ℕ) → Option (List ℕ) → Type 0
 HasPart whole old new = (new ≡ old) ⊎ (new ≡ None) ⊎ ((k : ℕ) × (k ≤ length whole) × (new ≡ Some (take k whole)))
 
--- what is found under a name: nothing where there is no file, a log where it is a file of items, and else the bad place
-abbrev pub Finds : {T : Type 0} → Result (Option T) LogErr → Option (List ℕ) → Type 0
-Finds (Ok None) file = file ≡ None
-Finds (Ok (Some log)) file = (bytes : List ℕ) × (items : List (List ℕ)) × (file ≡ Some bytes) × HasItems bytes items
-Finds (Err (Bad name at)) file = (bytes : List ℕ) × (file ≡ Some bytes) × IsBadAt bytes at
-Finds (Err TooLong) file = ⊥
-Finds (Err (File name)) file = Unit {0}
-Finds (Err Memory) file = Unit {0}
+-- a file of items as it was read: its bytes, whether its mark says open, and its items
+pub record FileRead : Type 0 where
+  pub bytes : List ℕ
+  pub was_open : Bool
+  pub items : List (List ℕ)
 
--- whether there is a log under a name: where there is a file it is one of items, or has a bad place
-abbrev pub HasLog : Result Bool LogErr → Option (List ℕ) → Type 0
-HasLog (Ok false) file = file ≡ None
-HasLog (Ok true) file = (bytes : List ℕ) × (items : List (List ℕ)) × (file ≡ Some bytes) × HasItems bytes items
-HasLog (Err (Bad name at)) file = (bytes : List ℕ) × (file ≡ Some bytes) × IsBadAt bytes at
-HasLog (Err TooLong) file = ⊥
-HasLog (Err (File name)) file = Unit {0}
-HasLog (Err Memory) file = Unit {0}
+-- its bytes are a file of these items under this mark
+abbrev pub IsRead : FileRead → Type 0
+IsRead read = IsFile (not read.was_open) read.items read.bytes
+
+-- what is read under a name: nothing where there is no file, its bytes where it is one of items, and else its bad place
+abbrev pub HasRead : Result (Option FileRead) LogErr → Option (List ℕ) → Type 0
+HasRead (Ok None) file = file ≡ None
+HasRead (Ok (Some read)) file = file ≡ Some read.bytes
+HasRead (Err (Bad name at)) file = (bytes : List ℕ) × (file ≡ Some bytes) × IsBadAt bytes at
+HasRead (Err TooLong) file = ⊥
+HasRead (Err (File name)) file = Unit {0}
+HasRead (Err Memory) file = Unit {0}

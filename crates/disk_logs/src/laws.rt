@@ -1,45 +1,40 @@
 //! The laws of logs.
 
-ghost use Rattle.std.specs.Prelude.{◌≡◌, ◌≢◌, ◌≤◌, ◌⊎◌, ℕ, Bool, false, List, length, Some};
-ghost use Rattle.file_trait.specs.Calls.{IsDurable};
-ghost use Rattle.file_trait.specs.DiskModel.{Past, did, to_file, cut, reads, IsSettled};
+ghost use Rattle.std.specs.Prelude.{◌≡◌, ◌≢◌, ◌≤◌, ◌⊎◌, ◌++◌, ℕ, Bool, true, false, List, [], length, Option, None, Some};
+ghost use Rattle.file_trait.specs.DiskModel.{Past, handed, reads, IsSettled};
 ghost use Rattle.file_trait.specs.Moments.{Moments};
-ghost use Rattle.file_trait.specs.Shown.{Shows};
 ghost use Rattle.file_trait.specs.Touched.{Touches};
-ghost use Rattle.log_items.specs.Items.{log_bytes, AreContents, IsFile, HasItems};
-ghost use Rattle.disk_logs.specs.Crash.{LogStands, LogLeaves};
+ghost use Rattle.log_items.specs.Items.{log_bytes, AreContents};
+ghost use Rattle.disk_logs.specs.Crash.{LogStands, DraftStands, IsSound, LogLeaves};
 
-/// When a log stands, and what a crash leaves of it then.
+/// What a crash leaves of a log that stands.
 #[tactic(none)]
 pub fn standing_law()
-    // A durable log stands with all its items synced.
-    ensures durable { (past : Past) (name : List ℕ) (closed : Bool) (items : List (List ℕ)) → AreContents items → reads past name ≡ Some (log_bytes closed items)
-        → IsSettled past name → IsDurable past name → LogStands past name closed items (length items) }
-
     // No more items are synced than there are, and a crash now leaves at least these.
     ensures within { (past : Past) (name : List ℕ) (closed : Bool) (items : List (List ℕ)) (synced : ℕ) → LogStands past name closed items synced → synced ≤ length items }
     ensures leaves { (past : Past) (name : List ℕ) (closed : Bool) (items : List (List ℕ)) (synced : ℕ) → LogStands past name closed items synced → LogLeaves name items synced past }
 {}
 
-/// While only other names are touched, a log stands at each moment as it stood.
+/// While only other names are touched, a log, a draft and what is sound stay at each moment as they were.
 #[tactic(none)]
 pub fn frame_law()
     ensures one { (other name : List ℕ) (closed : Bool) (items : List (List ℕ)) (synced : ℕ) (old new : Past) → other ≢ name
         → Touches (λ n. n ≡ other) old new → LogStands old name closed items synced → Moments (λ past. LogStands past name closed items synced) old new }
     ensures two { (one other name : List ℕ) (closed : Bool) (items : List (List ℕ)) (synced : ℕ) (old new : Past) → one ≢ name → other ≢ name
         → Touches (λ n. (n ≡ one) ⊎ (n ≡ other)) old new → LogStands old name closed items synced → Moments (λ past. LogStands past name closed items synced) old new }
+    ensures draft { (other draft whole : List ℕ) (old new : Past) → other ≢ draft → Touches (λ n. n ≡ other) old new → DraftStands old draft whole → Moments (λ past. DraftStands past draft whole) old new }
+    ensures sound { (other name : List ℕ) (old new : Past) → other ≢ name → Touches (λ n. n ≡ other) old new → IsSound old name → Moments (λ past. IsSound past name) old new }
 {}
 
-/// An open log whose last item may be incomplete is cut behind the whole ones.
+/// When a closed log may be trusted: of a disk that was just handed over each name is sound, one stays so, and a log that stands is.
 #[tactic(none)]
-pub fn repair_law()
-    // Where a crash leaves only these items, it does so at both moments, and then all of them are synced.
-    ensures moments { (past : Past) (name : List ℕ) (items : List (List ℕ)) (bytes : List ℕ) (len : ℕ) → reads past name ≡ Some bytes → IsFile false items bytes
-        → Shows past name (λ left. HasItems left items) → len ≡ length (log_bytes false items) → Moments (LogLeaves name items (length items)) past (did (to_file name (cut len)) past) }
-    ensures stands { (past : Past) (name : List ℕ) (items : List (List ℕ)) (bytes : List ℕ) (len : ℕ) → reads past name ≡ Some bytes → IsFile false items bytes
-        → Shows past name (λ left. HasItems left items) → len ≡ length (log_bytes false items) → LogStands (did (to_file name (cut len)) past) name false items (length items) }
+pub fn sound_law()
+    ensures handed { (files : List ℕ → Option (List ℕ)) (name : List ℕ) → IsSound (handed files) name }
+    ensures absent { (past : Past) (name : List ℕ) → reads past name ≡ None → IsSound past name }
+    ensures open_log { (past : Past) (name rest : List ℕ) → reads past name ≡ Some (log_bytes false [] ++ rest) → IsSound past name }
+    ensures stands { (past : Past) (name : List ℕ) (closed : Bool) (items : List (List ℕ)) (synced : ℕ) → LogStands past name closed items synced → IsSound past name }
 
-    // So it is where the file is durable.
-    ensures durable { (past : Past) (name : List ℕ) (items : List (List ℕ)) (bytes : List ℕ) → reads past name ≡ Some bytes → HasItems bytes items
-        → IsSettled past name → IsDurable past name → Shows past name (λ left. HasItems left items) }
+    // A closed log that is sound stands with all its items, where no crash leaves the name for another file.
+    ensures trusted { (past : Past) (name : List ℕ) (items : List (List ℕ)) → IsSound past name → IsSettled past name → AreContents items → reads past name ≡ Some (log_bytes true items)
+        → LogStands past name true items (length items) }
 {}

@@ -1,22 +1,20 @@
 //! A log over a disk.
 
-ghost use Rattle.std.specs.Prelude.{◌≡◌, ◌≢◌, ◌⊎◌, ℕ, ◌≤◌, ◌&&◌, Bool, true, false, List, [], ◌∷◌, ◌++◌, ◌+◌, ◌<◌, ◌^◌, ◌↔◌, length, take, Some, IsTrue, IfOk, IfErr, IfSome, IfNone, OnOk, OnErr, IsErrOf};
+ghost use Rattle.std.specs.Prelude.{◌≡◌, ◌≢◌, ◌⊎◌, ℕ, ◌≤◌, ◌&&◌, Bool, true, false, not, List, [], ◌∷◌, ◌++◌, ◌+◌, ◌<◌, ◌^◌, ◌↔◌, length, take, Some, IsTrue, IfOk, IfErr, OnOk, OnErr, IsErrOf};
 ghost use Rattle.file_trait.specs.DiskModel.{reads, IsSettled};
-ghost use Rattle.file_trait.specs.Calls.{IsThere, IsAbsent, Has, IsDirDurable};
+ghost use Rattle.file_trait.specs.Calls.{IsThere, IsAbsent, Has, IsDurable, IsDirDurable};
 ghost use Rattle.file_trait.specs.Moments.{Moments};
 ghost use Rattle.file_trait.specs.Name.{IsName};
 ghost use Rattle.file_trait.specs.Touched.{Touches};
-ghost use Rattle.disk_logs.specs.Crash.{Stands, LogLeaves, OldOrWhole, OldOrPublished, OldOrItems};
+ghost use Rattle.disk_logs.specs.Crash.{Stands, DraftStands, IsSound, LogLeaves, IsSafe, OldOrWhole, OldOrPublished, OldOrItems};
 ghost use Rattle.disk_logs.specs.Errors.{OnlyFile, OnlyFileOrMemory, LogCause};
-ghost use Rattle.disk_logs.specs.Logs.{draft_name as name_of_draft, file_of, with_mark, opened, IsLog, AreItems, HasAppended, HasMarked, mark_bytes as bytes_of_mark, IsKept, IsMoved, HasPart, Finds};
+ghost use Rattle.disk_logs.specs.Logs.{draft_name as name_of_draft, file_of, with_mark, opened, IsLog, AreItems, HasAppended, HasMarked, SetsMark, mark_bytes as bytes_of_mark, IsKept, IsMoved, HasPart};
 ghost use Rattle.log_items.specs.Items.{wire, log_bytes, AreContents, HasItems};
 
-use crate::LogErr;
 use crate::error::{told, wrote};
-use crate::reading::read_file;
-use crate::repairing::{repair, scanned};
+use crate::{LogErr, LogFile};
 use file_trait::{Disk, FileName};
-use log_items::{put_head, put_item};
+use log_items::{head, put_head, put_item};
 use std::alloc::Global;
 use std::marker::Model;
 
@@ -52,7 +50,8 @@ impl Log {
         requires short { length name ≤ 77 }
         requires valid { IsName name }
         ensures log { IfOk result (λ log. log ≡ record { name = name; draft = true; closed = true }) }
-        ensures made { IsTrue D.tells → OnOk result (reads (D.past disk.new) (name_of_draft name) ≡ Some (log_bytes true (head_item.now ∷ []))) }
+        ensures made { IsTrue D.tells → OnOk result (DraftStands (D.past disk.new) (name_of_draft name) (log_bytes true (head_item.now ∷ []))) }
+        ensures reads { IsTrue D.tells → OnOk result (reads (D.past disk.new) (name_of_draft name) ≡ Some (log_bytes true (head_item.now ∷ []))) }
         ensures left { IsTrue D.tells → OnErr result (HasPart (log_bytes true (head_item.now ∷ [])) (reads (D.past disk.old) (name_of_draft name)) (reads (D.past disk.new) (name_of_draft name))) }
         ensures others { IsTrue D.tells → (other : List ℕ) → other ≢ name_of_draft name → reads (D.past disk.new) other ≡ reads (D.past disk.old) other }
         ensures touches { IsTrue D.tells → Touches (λ n. n ≡ name_of_draft name) (D.past disk.old) (D.past disk.new) }
@@ -64,9 +63,7 @@ impl Log {
     {
         let file = draft_name(name);
         let bytes = draft_bytes(alloc, head_item)?;
-        clear(disk, file)?;
-        told(file, disk.create(file))?;
-        told(file, disk.append(file, &bytes))?;
+        make(disk, file, &bytes)?;
         Ok(Log {
             name,
             file,
@@ -89,19 +86,26 @@ impl Log {
         ensures others { IsTrue D.tells → (other : List ℕ) → other ≢ self.old.name → other ≢ name_of_draft self.old.name → reads (D.past disk.new) other ≡ reads (D.past disk.old) other }
         ensures touches { IsTrue D.tells → Touches (λ n. (n ≡ self.old.name) ⊎ (n ≡ name_of_draft self.old.name)) (D.past disk.old) (D.past disk.new) }
 
-        // At Ok all items of the draft are durable under the name. At each moment a crash leaves under it what it could leave before, or
-        // the whole draft.
-        ensures stands { (items : List (List ℕ)) → IsTrue D.tells → AreContents items → reads (D.past disk.old) (name_of_draft self.old.name) ≡ Some (log_bytes self.old.closed items)
+        // Where memory was wanting nothing was done but that the draft was made durable.
+        ensures wanted { IsTrue D.tells → IsErrOf result LogErr.Memory → Touches (λ n. ⊥) (D.past disk.old) (D.past disk.new) }
+
+        // At Ok all items of the draft are durable under the name, and so is its mark. At each moment a crash leaves under it what it
+        // could leave before, or the whole draft.
+        ensures stands { (items : List (List ℕ)) → IsTrue D.tells → AreContents items → DraftStands (D.past disk.old) (name_of_draft self.old.name) (log_bytes self.old.closed items)
             → OnOk result (Stands (D.past disk.new) self.new items (length items)) }
-        ensures any_moment { (whole : List ℕ) → IsTrue D.tells → reads (D.past disk.old) (name_of_draft self.old.name) ≡ Some whole
+        ensures durable { (whole : List ℕ) → IsTrue D.tells → DraftStands (D.past disk.old) (name_of_draft self.old.name) whole → OnOk result (IsDurable (D.past disk.new) self.old.name) }
+        ensures any_moment { (whole : List ℕ) → IsTrue D.tells → DraftStands (D.past disk.old) (name_of_draft self.old.name) whole
             → Moments (OldOrWhole (D.past disk.old) self.old.name whole) (D.past disk.old) (D.past disk.new) }
+        ensures sound { (items : List (List ℕ)) → IsTrue D.tells → AreContents items → DraftStands (D.past disk.old) (name_of_draft self.old.name) (log_bytes self.old.closed items)
+            → IsSound (D.past disk.old) self.old.name → Moments (λ past. IsSound past self.old.name) (D.past disk.old) (D.past disk.new) }
 
         // Where it leaves the whole draft, the directory has all that was done to it. At Ok it always has.
-        ensures images { (whole : List ℕ) → IsTrue D.tells → reads (D.past disk.old) (name_of_draft self.old.name) ≡ Some whole
+        ensures images { (whole : List ℕ) → IsTrue D.tells → DraftStands (D.past disk.old) (name_of_draft self.old.name) whole
             → Moments (OldOrPublished (D.past disk.old) (name_of_draft self.old.name) self.old.name whole) (D.past disk.old) (D.past disk.new) }
         ensures directory { IsTrue D.tells → OnOk result (IsDirDurable (D.past disk.new)) }
         ensures only { OnlyFileOrMemory result }
         ensures time { D.moment disk.old ≤ D.moment disk.new }
+        ensures few { D.moment disk.new ≤ D.moment disk.old + 3 }
         ensures cause { LogCause (D.faults disk.old) (D.faults disk.new) (D.blamed disk.new) result }
         ensures named { (other : List ℕ) → IsErrOf result (LogErr.File other) → (other ≡ self.old.name) ⊎ (other ≡ name_of_draft self.old.name) }
     {
@@ -114,8 +118,8 @@ impl Log {
         Ok(())
     }
 
-    /// Puts whole items, one behind the other as `put_item` makes them, behind those of the file. A log that is
-    /// published and says closed is marked open first.
+    /// Puts whole items, one behind the other as `put_item` makes them, behind those of the file. A log that is published and says
+    /// closed is opened first: marked open and synced, so that no crash leaves a closed mark beside what is appended.
     pub fn append<D: Disk>(&mut self, disk: &mut D, items: &[u8]) -> Result<(), LogErr>
         requires log { IsTrue D.tells → IsLog (D.past disk.old) self.old }
         requires items { AreItems items.now }
@@ -138,17 +142,25 @@ impl Log {
         // Where memory was wanting it leaves only old ones.
         ensures only_old { (all : List (List ℕ)) (synced : ℕ) → IsTrue D.tells → Stands (D.past disk.old) self.old all synced
             → IsErrOf result LogErr.Memory → Moments (LogLeaves self.old.name all synced) (D.past disk.old) (D.past disk.new) }
+        // While it is written each closed log of the name stays sound, and a draft stays one.
+        ensures sound { (all : List (List ℕ)) (synced : ℕ) → IsTrue D.tells → Stands (D.past disk.old) self.old all synced
+            → Moments (λ past. IsSound past self.old.name) (D.past disk.old) (D.past disk.new) }
+        ensures drafted { (all more : List (List ℕ)) → IsTrue D.tells → IsTrue self.old.draft → items.now ≡ wire more
+            → DraftStands (D.past disk.old) (name_of_draft self.old.name) (log_bytes self.old.closed all)
+            → OnOk result (DraftStands (D.past disk.new) (name_of_draft self.old.name) (log_bytes self.old.closed (all ++ more))) }
         ensures only { OnlyFileOrMemory result }
         ensures time { D.moment disk.old ≤ D.moment disk.new }
+        // It is one write, and with the mark and its sync three calls.
+        ensures few { D.moment disk.new ≤ D.moment disk.old + 3 }
+        ensures one { self.old.closed ≡ false → D.moment disk.new ≤ D.moment disk.old + 1 }
         ensures cause { LogCause (D.faults disk.old) (D.faults disk.new) (D.blamed disk.new) result }
         ensures named { (name : List ℕ) → IsErrOf result (LogErr.File name) → name ≡ file_of self.old }
     {
-        let closed = mark_to_append(self.draft, self.closed);
-        self.set_mark(disk, closed)?;
+        self.open(disk)?;
         told(self.file, disk.append(self.file, items))
     }
 
-    /// Makes all that was appended durable.
+    /// Makes all that was appended durable. A published log that says closed is durable already, and then nothing is done.
     pub fn sync<D: Disk>(&mut self, disk: &mut D) -> Result<(), LogErr>
         requires { IsTrue D.tells → IsThere (D.past disk.old) (file_of self.old) }
         ensures log { self.new ≡ self.old }
@@ -156,17 +168,26 @@ impl Log {
         ensures touches { IsTrue D.tells → Touches (λ n. n ≡ file_of self.old) (D.past disk.old) (D.past disk.new) }
         ensures stands { (items : List (List ℕ)) (synced : ℕ) → IsTrue D.tells → Stands (D.past disk.old) self.old items synced
             → OnOk result (Stands (D.past disk.new) self.new items (length items)) }
+        ensures durable { (items : List (List ℕ)) (synced : ℕ) → IsTrue D.tells → Stands (D.past disk.old) self.old items synced → self.old.closed ≡ false
+            → OnOk result (IsDurable (D.past disk.new) self.old.name) }
         ensures any_moment { (items : List (List ℕ)) (synced : ℕ) → IsTrue D.tells → Stands (D.past disk.old) self.old items synced
             → Moments (LogLeaves self.old.name items synced) (D.past disk.old) (D.past disk.new) }
+        ensures sound { (items : List (List ℕ)) (synced : ℕ) → IsTrue D.tells → Stands (D.past disk.old) self.old items synced
+            → Moments (λ past. IsSound past self.old.name) (D.past disk.old) (D.past disk.new) }
         ensures only { OnlyFile result }
         ensures time { D.moment disk.old ≤ D.moment disk.new }
+        ensures few { D.moment disk.new ≤ D.moment disk.old + 1 }
         ensures cause { LogCause (D.faults disk.old) (D.faults disk.new) (D.blamed disk.new) result }
         ensures named { (name : List ℕ) → IsErrOf result (LogErr.File name) → name ≡ file_of self.old }
     {
+        if self.is_closed() {
+            return Ok(());
+        }
         told(self.file, disk.sync(self.file))
     }
 
-    /// Marks the file closed where it is not, and makes it durable.
+    /// Closes the log where its mark does not say so: it is made durable, marked closed, and made durable again, so that a closed
+    /// mark stands over durable items alone.
     pub fn close<D: Disk>(&mut self, disk: &mut D) -> Result<(), LogErr>
         requires { IsTrue D.tells → IsLog (D.past disk.old) self.old }
         ensures log { OnOk result (self.new ≡ with_mark true self.old) }
@@ -178,100 +199,161 @@ impl Log {
         ensures touches { IsTrue D.tells → Touches (λ n. n ≡ file_of self.old) (D.past disk.old) (D.past disk.new) }
         ensures stands { (items : List (List ℕ)) (synced : ℕ) → IsTrue D.tells → Stands (D.past disk.old) self.old items synced
             → OnOk result (Stands (D.past disk.new) self.new items (length items)) }
+
+        // The closed mark is durable too.
+        ensures durable { (items : List (List ℕ)) (synced : ℕ) → IsTrue D.tells → Stands (D.past disk.old) self.old items synced → self.old.closed ≡ false
+            → OnOk result (IsDurable (D.past disk.new) self.old.name) }
         ensures kept { (items : List (List ℕ)) (synced : ℕ) → IsTrue D.tells → Stands (D.past disk.old) self.old items synced
             → IsErrOf result LogErr.Memory → Stands (D.past disk.new) self.new items synced }
         ensures any_moment { (items : List (List ℕ)) (synced : ℕ) → IsTrue D.tells → Stands (D.past disk.old) self.old items synced
             → Moments (LogLeaves self.old.name items synced) (D.past disk.old) (D.past disk.new) }
+        ensures sound { (items : List (List ℕ)) (synced : ℕ) → IsTrue D.tells → Stands (D.past disk.old) self.old items synced
+            → Moments (λ past. IsSound past self.old.name) (D.past disk.old) (D.past disk.new) }
         ensures only { OnlyFileOrMemory result }
         ensures time { D.moment disk.old ≤ D.moment disk.new }
+        ensures few { D.moment disk.new ≤ D.moment disk.old + 3 }
         ensures cause { LogCause (D.faults disk.old) (D.faults disk.new) (D.blamed disk.new) result }
         ensures named { (name : List ℕ) → IsErrOf result (LogErr.File name) → name ≡ file_of self.old }
     {
-        self.set_mark(disk, true)?;
-        self.sync(disk)
+        if self.closed {
+            return Ok(());
+        }
+        self.sync(disk)?;
+        self.set_mark(disk, true)
     }
 
-    /// The log of this name, none where there is no file. Bytes that are no file of items are refused as `Bad` at their first
-    /// wrong place, and then nothing is done to the disk. Else the file is made durable, an incomplete last item is cut off,
-    /// and the file is marked open.
-    pub fn resume<D: Disk>(
-        alloc: Global,
-        disk: &mut D,
-        name: FileName,
-    ) -> Result<Option<Log>, LogErr>
-        ensures found { IsTrue D.tells → Finds result (reads (D.past disk.old) name) }
-        ensures log { IfOk result (λ found. IfSome found (λ log. log ≡ record { name = name; draft = false; closed = false })) }
+    /// The log whose file was read so. A file whose mark says closed is trusted as it is, and nothing is done to it. One whose mark
+    /// says open is renewed: its whole items are written into a draft under a closed head, which is published. No earlier sync of the
+    /// old file is trusted, and nothing of it is changed.
+    pub fn resume<D: Disk>(disk: &mut D, name: FileName, read: &LogFile) -> Result<Log, LogErr>
+        requires short { length name ≤ 77 }
+        requires valid { IsName name }
+        requires read { IsTrue D.tells → reads (D.past disk.old) name ≡ Some read.now.bytes }
+        ensures log { IfOk result (λ log. log ≡ record { name = name; draft = false; closed = true }) }
 
-        // An error after the sync leaves the items too: cut off is only what is no whole item.
-        ensures open { (bytes : List ℕ) (items : List (List ℕ)) → IsTrue D.tells → reads (D.past disk.old) name ≡ Some bytes → HasItems bytes items
-            → OnOk result (reads (D.past disk.new) name ≡ Some (log_bytes false items)) }
-        ensures kept { (bytes : List ℕ) (items : List (List ℕ)) → IsTrue D.tells → reads (D.past disk.old) name ≡ Some bytes → HasItems bytes items
-            → OnErr result (Has (D.past disk.new) name (λ left. HasItems left items)) }
-        ensures refused { IsTrue D.tells → (other : List ℕ) (at : ℕ) → IsErrOf result (LogErr.Bad other at) → D.past disk.new ≡ D.past disk.old }
-        ensures absent { IsTrue D.tells → IfOk result (λ found. IfNone found (D.past disk.new ≡ D.past disk.old)) }
-        ensures others { IsTrue D.tells → (other : List ℕ) → other ≢ name → reads (D.past disk.new) other ≡ reads (D.past disk.old) other }
-        ensures touches { IsTrue D.tells → Touches (λ n. n ≡ name) (D.past disk.old) (D.past disk.new) }
+        // After an error the name has the old file or the new one, with the same items.
+        ensures items { IsTrue D.tells → OnOk result (reads (D.past disk.new) name ≡ Some (log_bytes true read.now.items)) }
+        ensures kept { IsTrue D.tells → OnErr result (Has (D.past disk.new) name (λ left. HasItems left read.now.items)) }
+        ensures trusted { IsTrue D.tells → read.now.was_open ≡ false → D.past disk.new ≡ D.past disk.old }
+        ensures others { IsTrue D.tells → (other : List ℕ) → other ≢ name → other ≢ name_of_draft name → reads (D.past disk.new) other ≡ reads (D.past disk.old) other }
+        ensures touches { IsTrue D.tells → Touches (λ n. (n ≡ name) ⊎ (n ≡ name_of_draft name)) (D.past disk.old) (D.past disk.new) }
+        ensures wanted { IsTrue D.tells → IsErrOf result LogErr.Memory → Touches (λ n. n ≡ name_of_draft name) (D.past disk.old) (D.past disk.new) }
 
         // At Ok all items are synced. At each moment a crash leaves under the name what it could leave before, or exactly these items.
-        ensures stands { (bytes : List ℕ) (items : List (List ℕ)) → IsTrue D.tells → reads (D.past disk.old) name ≡ Some bytes → HasItems bytes items → IsSettled (D.past disk.old) name
-            → IfOk result (λ found. IfSome found (λ log. Stands (D.past disk.new) log items (length items))) }
-        ensures any_moment { (bytes : List ℕ) (items : List (List ℕ)) → IsTrue D.tells → reads (D.past disk.old) name ≡ Some bytes → HasItems bytes items → IsSettled (D.past disk.old) name
-            → Moments (OldOrItems (D.past disk.old) name items) (D.past disk.old) (D.past disk.new) }
-        ensures bad { (other : List ℕ) (at : ℕ) → IsErrOf result (LogErr.Bad other at) → other ≡ name }
-        ensures never { IsErrOf result LogErr.TooLong → ⊥ }
+        ensures stands { IsTrue D.tells → IsSettled (D.past disk.old) name → IsSound (D.past disk.old) name
+            → IfOk result (λ log. Stands (D.past disk.new) log read.now.items (length read.now.items)) }
+        ensures any_moment { IsTrue D.tells → IsSettled (D.past disk.old) name → Moments (OldOrItems (D.past disk.old) name read.now.items) (D.past disk.old) (D.past disk.new) }
+        ensures sound { IsTrue D.tells → IsSound (D.past disk.old) name → Moments (λ past. IsSound past name) (D.past disk.old) (D.past disk.new) }
+        ensures only { OnlyFileOrMemory result }
         ensures time { D.moment disk.old ≤ D.moment disk.new }
         ensures cause { LogCause (D.faults disk.old) (D.faults disk.new) (D.blamed disk.new) result }
-        ensures named { (other : List ℕ) → IsErrOf result (LogErr.File other) → other ≡ name }
+        ensures named { (other : List ℕ) → IsErrOf result (LogErr.File other) → (other ≡ name) ⊎ (other ≡ name_of_draft name) }
     {
-        let Some(bytes) = read_file(alloc, disk, name)? else {
-            return Ok(None);
-        };
-        let found = scanned(alloc, name, &bytes)?;
-        repair(disk, name, &bytes, &found)?;
-        let mut log = Log {
-            name,
-            file: name,
-            draft: false,
-            closed: !found.was_open,
-        };
-        log.set_mark(disk, false)?;
-        Ok(Some(log))
+        if !read.was_open() {
+            return Ok(Log {
+                name,
+                file: name,
+                draft: false,
+                closed: true,
+            });
+        }
+        let mut log = redraft(disk, name, read)?;
+        log.publish(disk)?;
+        Ok(log)
     }
 
-    // Sets the file's mark where it is another.
-    fn set_mark<D: Disk>(&mut self, disk: &mut D, closed: bool) -> Result<(), LogErr>
+    // Whether it is published and says closed.
+    fn is_closed(&self) -> bool
+        ensures { result ≡ (self.now.closed && not self.now.draft) }
+    {
+        self.closed && !self.draft
+    }
+
+    // Opens a log that is published and says closed: it is marked open, and the mark is made durable.
+    fn open<D: Disk>(&mut self, disk: &mut D) -> Result<(), LogErr>
         requires { IsTrue D.tells → IsLog (D.past disk.old) self.old }
-        ensures log { OnOk result (self.new ≡ with_mark closed self.old) }
-        ensures err { OnErr result (self.new ≡ self.old) }
+        ensures log { OnOk result (self.new ≡ opened self.old) }
+        ensures err { OnErr result ((self.new ≡ self.old) ⊎ (self.new ≡ opened self.old)) }
+        ensures wanted { IsErrOf result LogErr.Memory → self.new ≡ self.old }
         ensures marked { (all : List (List ℕ)) → IsTrue D.tells → reads (D.past disk.old) (file_of self.old) ≡ Some (log_bytes self.old.closed all)
-            → HasMarked result self.old.closed closed all (reads (D.past disk.new) (file_of self.old)) }
+            → HasMarked result self.old.closed (opened self.old).closed all (reads (D.past disk.new) (file_of self.old)) }
         ensures others { IsTrue D.tells → (other : List ℕ) → other ≢ file_of self.old → reads (D.past disk.new) other ≡ reads (D.past disk.old) other }
         ensures touches { IsTrue D.tells → Touches (λ n. n ≡ file_of self.old) (D.past disk.old) (D.past disk.new) }
+        ensures same { IsTrue D.tells → IsTrue self.old.draft ⊎ (self.old.closed ≡ false) → D.past disk.new ≡ D.past disk.old }
         ensures stands { (items : List (List ℕ)) (synced : ℕ) → IsTrue D.tells → Stands (D.past disk.old) self.old items synced
             → OnOk result (Stands (D.past disk.new) self.new items synced) }
         ensures kept { (items : List (List ℕ)) (synced : ℕ) → IsTrue D.tells → Stands (D.past disk.old) self.old items synced
             → IsErrOf result LogErr.Memory → Stands (D.past disk.new) self.new items synced }
         ensures any_moment { (items : List (List ℕ)) (synced : ℕ) → IsTrue D.tells → Stands (D.past disk.old) self.old items synced
-            → Moments (LogLeaves self.old.name items synced) (D.past disk.old) (D.past disk.new) }
+            → Moments (IsSafe self.old.name items synced) (D.past disk.old) (D.past disk.new) }
         ensures only { OnlyFileOrMemory result }
         ensures time { D.moment disk.old ≤ D.moment disk.new }
+        ensures few { D.moment disk.new ≤ D.moment disk.old + 2 }
+        ensures none { self.old.closed ≡ false → D.moment disk.new ≡ D.moment disk.old }
         ensures cause { LogCause (D.faults disk.old) (D.faults disk.new) (D.blamed disk.new) result }
         ensures named { (name : List ℕ) → IsErrOf result (LogErr.File name) → name ≡ file_of self.old }
     {
-        if self.closed == closed {
-            return Ok(());
+        if self.is_closed() {
+            return self.set_mark(disk, false);
         }
+        Ok(())
+    }
+
+    // Sets the file's mark and makes it durable.
+    fn set_mark<D: Disk>(&mut self, disk: &mut D, closed: bool) -> Result<(), LogErr>
+        requires { IsTrue D.tells → IsLog (D.past disk.old) self.old }
+        ensures log { OnOk result (self.new ≡ with_mark closed self.old) }
+        ensures err { OnErr result ((self.new ≡ self.old) ⊎ (self.new ≡ with_mark closed self.old)) }
+        ensures wanted { IsErrOf result LogErr.Memory → self.new ≡ self.old }
+        ensures done { IsTrue D.tells → SetsMark (file_of self.old) closed result (D.past disk.old) (D.past disk.new) }
+        ensures only { OnlyFileOrMemory result }
+        ensures time { D.moment disk.old ≤ D.moment disk.new }
+        ensures few { D.moment disk.new ≤ D.moment disk.old + 2 }
+        ensures cause { LogCause (D.faults disk.old) (D.faults disk.new) (D.blamed disk.new) result }
+        ensures named { (name : List ℕ) → IsErrOf result (LogErr.File name) → name ≡ file_of self.old }
+    {
         told(self.file, disk.mark(self.file, mark_bytes(closed)))?;
         self.closed = closed;
-        Ok(())
+        told(self.file, disk.sync(self.file))
     }
 }
 
-// The mark that a log has while it grows: only a draft stays closed.
-fn mark_to_append(draft: bool, closed: bool) -> bool
-    ensures { result ≡ (draft && closed) }
+// Writes a draft with the whole items that were read, under a closed head.
+fn redraft<D: Disk>(disk: &mut D, name: FileName, read: &LogFile) -> Result<Log, LogErr>
+    requires short { length name ≤ 77 }
+    requires valid { IsName name }
+    ensures log { IfOk result (λ log. log ≡ record { name = name; draft = true; closed = true }) }
+    ensures made { IsTrue D.tells → OnOk result (DraftStands (D.past disk.new) (name_of_draft name) (log_bytes true read.now.items)) }
+    ensures touches { IsTrue D.tells → Touches (λ n. n ≡ name_of_draft name) (D.past disk.old) (D.past disk.new) }
+    ensures only { OnlyFileOrMemory result }
+    ensures time { D.moment disk.old ≤ D.moment disk.new }
+    ensures cause { LogCause (D.faults disk.old) (D.faults disk.new) (D.blamed disk.new) result }
+    ensures named { (other : List ℕ) → IsErrOf result (LogErr.File other) → other ≡ name_of_draft name }
 {
-    draft && closed
+    let file = draft_name(name);
+    make(disk, file, &head(true))?;
+    told(file, disk.append(file, read.items()))?;
+    Ok(Log {
+        name,
+        file,
+        draft: true,
+        closed: true,
+    })
+}
+
+// Makes a file with these bytes. An older one of the name is removed.
+fn make<D: Disk>(disk: &mut D, name: FileName, bytes: &[u8]) -> Result<(), LogErr>
+    ensures made { IsTrue D.tells → OnOk result (DraftStands (D.past disk.new) name bytes.now) }
+    ensures left { IsTrue D.tells → OnErr result (HasPart bytes.now (reads (D.past disk.old) name) (reads (D.past disk.new) name)) }
+    ensures touches { IsTrue D.tells → Touches (λ n. n ≡ name) (D.past disk.old) (D.past disk.new) }
+    ensures only { OnlyFileOrMemory result }
+    ensures time { D.moment disk.old ≤ D.moment disk.new }
+    ensures cause { LogCause (D.faults disk.old) (D.faults disk.new) (D.blamed disk.new) result }
+    ensures named { (other : List ℕ) → IsErrOf result (LogErr.File other) → other ≡ name }
+{
+    clear(disk, name)?;
+    told(name, disk.create(name))?;
+    told(name, disk.append(name, bytes))
 }
 
 // The four bytes of a mark.

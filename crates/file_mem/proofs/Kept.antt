@@ -1,22 +1,22 @@
 -- The files of a disk in memory stay those that it reads.
-use Rattle.std.proofs.Common.{◌≡◌, ◌⊎◌, inl, inr, ℕ, ◌+◌, ◌≤◌, min, Bool, true, false, if◌then◌else◌, List, [], ◌∷◌, ◌++◌, length, take, nat_eq, nat_lt, Option, None, Some, option_map, Result, Ok, Err, refl, sym, ap, ◌∙◌, arith}
+use Rattle.std.proofs.Common.{◌≡◌, ◌⊎◌, inl, inr, ℕ, ◌+◌, ◌≤◌, min, Bool, true, false, if◌then◌else◌, List, [], ◌∷◌, ◌++◌, length, take, nat_eq, nat_lt, Option, None, Some, option_map, is_some, Result, Ok, Err, refl, sym, ap, ◌∙◌, arith}
 use Rattle.std.proofs.lemmas.Bool.{cases_Bool, ltb-true, ltb-false, eqb-true}
 use Rattle.std.proofs.lemmas.List.{nil_from_length, take_min}
 use Rattle.std.proofs.lemmas.List.Sums.{count_by-le-length}
-use Rattle.file_trait.specs.DiskModel.{Past, handed, did, FileOp, DirOp, to_file, to_dir, append, sync, FileId, clock, same_name, named, reads}
+use Rattle.file_trait.specs.DiskModel.{Past, handed, did, FileOp, DirOp, to_file, to_dir, append, sync, sync_failed, FileId, clock, same_name, named, reads}
 use Rattle.file_trait.specs.Calls.{IsDurable, IsDirDurable}
 use Rattle.file_trait.proofs.Names.{same_name_true}
 use Rattle.file_trait.proofs.Files.{reads_handed}
 use Rattle.file_mem.specs.Operations.{op_of, past_after}
-use Rattle.file_mem.specs.Pending.{pending, dir_pending, IsSynced, IsDirSynced}
-use Rattle.file_mem.specs.Files.{Stored, stored, stored_as, found, is_unsynced, one_if, unsynced_count, written, synced, new_file, handed_file, placed, past_from, file_in, stored_in, AreStored}
-use Rattle.file_mem.specs.Directory.{past_of, DidOrNot, front_put, FrontPut}
+use Rattle.file_mem.specs.Pending.{pending, doubtful, dir_pending, IsSynced, IsInDoubt, IsDirSynced}
+use Rattle.file_mem.specs.Files.{Stored, stored, stored_as, found, is_unsynced, is_doubtful, one_if, unsynced_count, written, synced, lost, new_file, handed_file, placed, past_from, file_in, stored_in, AreStored}
+use Rattle.file_mem.specs.Directory.{past_of, DidOrNot, front_put, FrontPut, loses}
 use Rattle.std.specs.declared.alloc.AllocError.{AllocError}
 use Rattle.file_mem.specs.declared.directory.Directory.{Directory}
 use Rattle.file_mem.specs.declared.operation.Operation.{Operation}
 use Rattle.file_mem.specs.declared.files.File.{File}
 use Rattle.file_mem.proofs.Pending.{file_durable, dir_durable}
-use Rattle.file_mem.proofs.After.{map_if, stored_file, stored_sync, stored_dir, stored_handed, placed_same}
+use Rattle.file_mem.proofs.After.{map_if, stored_file, stored_sync, stored_lost, stored_dir, stored_handed, placed_same}
 
 -- ---- the history grows
 
@@ -58,6 +58,12 @@ module _ (past : Past) (files : List File) (h : (name : List ℕ) → stored fil
   after_sync name after new other =
       new other ∙ ap (λ o. if same_name name other then option_map synced o else o) (h other) ∙ sym (stored_sync past name other)
 
+  pub after_lost : (name : List ℕ) (after : List File)
+      → ((other : List ℕ) → stored after other ≡ (if same_name name other then option_map lost (stored files other) else stored files other))
+      → (other : List ℕ) → stored after other ≡ stored_in (did (sync_failed name) past) other
+  after_lost name after new other =
+      new other ∙ ap (λ o. if same_name name other then option_map lost o else o) (h other) ∙ sym (stored_lost past name other)
+
   pub after_dir : (op : DirOp) (moment : ℕ) (after : List File) → moment ≡ clock past
       → ((other : List ℕ) → stored after other ≡ placed op (new_file moment) (stored files) other)
       → (other : List ℕ) → stored after other ≡ stored_in (did (to_dir op) past) other
@@ -81,6 +87,18 @@ module _ (past : Past) (files : List File) (h : (name : List ℕ) → stored fil
       go (Some i) is =
           let there : nat_lt 0 (pending past i) ≡ true = sym (ap is_unsynced (h name ∙ ap (option_map (file_in past)) is)) ∙ some in
           absurd (omega (arith, none i is, ltb-true 0 (pending past i) there))
+
+  -- something of the file is in doubt
+  pub in_doubt : (name : List ℕ) → is_doubtful (stored files name) ≡ true → IsInDoubt past name
+  in_doubt name some = go (named past name) refl
+    where
+      go : (o : Option FileId) → named past name ≡ o → IsInDoubt past name
+      go None is = cc (some, ap is_doubtful (h name ∙ ap (option_map (file_in past)) is))
+      go (Some i) is = (
+        i,
+        is,
+        ltb-true 0 (doubtful past i) (sym (ap is_doubtful (h name ∙ ap (option_map (file_in past)) is)) ∙ some),
+      )
 
 -- nothing of the directory is pending
 pub is_dir_durable : (past : Past) (unsynced : Bool) → unsynced ≡ nat_lt 0 (dir_pending past) → unsynced ≡ false → IsDirDurable past
@@ -117,6 +135,11 @@ front_appended name bytes count old new = go (nat_eq count 0)
 pub one_at_most : (b : Bool) → one_if b ≤ 1
 one_at_most true = omega arith
 one_at_most false = omega arith
+
+-- a call is named to lose
+pub some_losing : (losing : Option ℕ) (call : ℕ) → loses losing call ≡ true → one_if (is_some losing) ≡ 1
+some_losing None call h = cc h
+some_losing (Some at) call h = refl
 
 pub few_unsynced : (files : List File) → unsynced_count files ≤ length files
 few_unsynced files = count_by-le-length (λ (file : File). file.unsynced) files

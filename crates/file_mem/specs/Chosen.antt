@@ -1,26 +1,34 @@
--- One crash image, by how many of the pending operations were done.
-use Rattle.std.specs.Prelude.{ℕ, Bool, false, if◌then◌else◌, List, ◌++◌, take, nat_eq, nat_lt, Option, None, Some, option_map}
-use Rattle.file_trait.specs.DiskModel.{Past, handed, did, FileOp, append, mark, cut, DirOp, create, rename, remove, to_file, to_dir, sync, sync_dir, FileId, first, made, clock, same_name, same_file, is_file, named, changed, content, handed_bytes}
-use Rattle.file_mem.specs.Pending.{pending, dir_pending}
+-- One crash image, by which of the pending operations were done.
+use Rattle.std.specs.Prelude.{ℕ, ◌≤◌, Bool, false, if◌then◌else◌, List, nat_lt, Option, None, Some, option_map}
+use Rattle.file_trait.specs.DiskModel.{Past, handed, did, DirOp, create, rename, remove, to_file, to_dir, sync, sync_failed, sync_dir, FileId, first, made, clock, same_name, same_file, is_file, named, changed, handed_bytes}
+use Rattle.file_mem.specs.declared.choice.Taken.{Taken}
+use Rattle.file_mem.specs.declared.choice.Taken.TheVariants.{Front, Each}
+use Rattle.file_mem.specs.Pending.{pending, doubtful, dir_pending}
+use Rattle.file_mem.specs.Taken.{left_after}
 
--- an append is done up to so many bytes, and another operation is not done
-abbrev pub begun : FileOp → ℕ → List ℕ → List ℕ
-begun (append bytes) n old = old ++ take n bytes
-begun (mark four) n old = old
-begun (cut len) n old = old
+abbrev mutual
+  -- a file of whose pending operations so much is taken
+  pub file_left : Past → FileId → Taken → List ℕ
+  file_left (handed files) i taken = handed_bytes files i
+  file_left (did (to_file name op) past) i taken = if is_file (named past name) i then left_after taken op (pending past i) (file_left past i taken) else file_left past i taken
+  file_left (did (sync name) past) i taken = if is_file (named past name) i then file_redone past i taken else file_left past i taken
+  file_left (did (sync_failed name) past) i taken = file_left past i taken
+  file_left (did (to_dir op) past) i taken = file_left past i taken
+  file_left (did sync_dir past) i taken = file_left past i taken
 
--- a file of whose pending operations the first so many are done, and so many bytes of the next
-abbrev pub file_left : Past → FileId → (ops bytes : ℕ) → List ℕ
-file_left (handed files) i ops bytes = handed_bytes files i
-file_left (did (to_file name op) past) i ops bytes =
-    if is_file (named past name) i then
-    if nat_lt (pending past i) ops then changed op (file_left past i ops bytes)
-    else if nat_eq (pending past i) ops then begun op bytes (file_left past i ops bytes)
-    else file_left past i ops bytes
-    else file_left past i ops bytes
-file_left (did (sync name) past) i ops bytes = if is_file (named past name) i then content past i else file_left past i ops bytes
-file_left (did (to_dir op) past) i ops bytes = file_left past i ops bytes
-file_left (did sync_dir past) i ops bytes = file_left past i ops bytes
+  -- the file after all that was done to it, or where a sync of it has failed, after all since the last that failed, on what is taken of the rest
+  pub file_redone : Past → FileId → Taken → List ℕ
+  file_redone (handed files) i taken = handed_bytes files i
+  file_redone (did (to_file name op) past) i taken = if is_file (named past name) i then changed op (file_redone past i taken) else file_redone past i taken
+  file_redone (did (sync_failed name) past) i taken = if is_file (named past name) i then file_left past i taken else file_redone past i taken
+  file_redone (did (sync name) past) i taken = file_redone past i taken
+  file_redone (did (to_dir op) past) i taken = file_redone past i taken
+  file_redone (did sync_dir past) i taken = file_redone past i taken
+
+-- what is taken of the file is a front of what was done to it: all that is in doubt, and a front of the rest
+abbrev pub IsFrontOf : Past → FileId → Taken → Type 0
+IsFrontOf past i (Front ops bytes) = doubtful past i ≤ ops
+IsFrontOf past i (Each front later) = ⊥
 
 -- what was done up to the last of the first so many pending operations of the directory
 abbrev pub dir_left : Past → ℕ → Past
@@ -29,6 +37,7 @@ dir_left (did (to_dir op) past) count = if nat_lt (dir_pending past) count then 
 dir_left (did sync_dir past) count = did sync_dir past
 dir_left (did (to_file name op) past) count = dir_left past count
 dir_left (did (sync name) past) count = dir_left past count
+dir_left (did (sync_failed name) past) count = dir_left past count
 
 -- ---- what a file is called
 
@@ -56,4 +65,5 @@ called (handed files) (made moment) = None
 called (did (to_dir op) past) i = moved op (same_file (made (clock past)) i) (called past i)
 called (did (to_file name op) past) i = called past i
 called (did (sync name) past) i = called past i
+called (did (sync_failed name) past) i = called past i
 called (did sync_dir past) i = called past i

@@ -1,6 +1,6 @@
 //! The disk of the operating system.
 
-ghost use Rattle.std.specs.Prelude.{◌≡◌, ◌≤◌, None, false, IfOk, MatchResult, Ok, length, string_bytes};
+ghost use Rattle.std.specs.Prelude.{◌≡◌, ◌≤◌, None, false, IfOk, IsErr, IsNone, MatchResult, Ok, length, string_bytes};
 ghost use Rattle.file_trait.specs.Calls.{Cause};
 ghost use Rattle.file_trait.specs.DiskModel.{handed};
 ghost use Rattle.file_trait.specs.Faults.{names_of};
@@ -35,10 +35,12 @@ impl<'r, R: Files> HostDisk<'r, R> {
         })
     }
 
-    // Counts a failure and blames the names that were given. No file stays open after one.
+    // Counts a failure and blames the names that were given. No file stays open after one: a handle tells of a failed write once,
+    // and answers well the next time.
     fn judged<T: Drop>(&mut self, outcome: io::Result<T>, given: Blamed) -> Result<T, DiskErr>
         ensures cause { Cause (names_of given) self.old.faults.count self.new.faults.count (names_of self.old.faults.blamed) (names_of self.new.faults.blamed) result }
         ensures value { MatchResult result (λ value. outcome ≡ Ok value) (λ e. e ≡ DiskErr.Failed) }
+        ensures closed { IsErr result → IsNone self.new.folder.read × IsNone self.new.folder.written }
         ensures time { self.new.folder.clock ≡ self.old.folder.clock }
     {
         match outcome {

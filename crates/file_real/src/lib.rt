@@ -14,3 +14,5 @@ pub use output::HostOut;
 
 #[cfg(test)]
 mod tests;
+#[cfg(test)]
+mod watched;

@@ -1,3 +1,5 @@
+use crate::watched::Call::{Close, Open, SyncAll, SyncData, Write as Wrote};
+use crate::watched::{Notes, Watched};
 use crate::{HostDisk, HostIn, HostOut};
 use file_trait::{Disk, DiskErr, FileName, Sink, SinkErr, Source, SrcErr, write_all};
 use std::io::{self, ErrorKind, Read, Write};
@@ -63,6 +65,67 @@ fn no_stale_file_is_written(rt: HostRuntime) -> Result<(), Fail> {
     disk.append(c, b"est")?;
     assert!(rt; holds(&mut disk, c, b"oldest"));
     disk.remove(c)?;
+    Ok(())
+}
+
+// No contract says which file is synced, and by which handle. Between two handles of a file that was written one is always open.
+#[test]
+fn a_file_is_synced_by_the_handle_that_wrote_it(rt: HostRuntime) -> Result<(), Fail> {
+    let e = FileName::new(b"e").ok_or("e")?;
+    let f = FileName::new(b"f").ok_or("f")?;
+    let notes = Notes::new();
+    let watched = Watched {
+        rt: &rt,
+        notes: &notes,
+    };
+    let mut disk = HostDisk::new(&watched, rt.alloc(), ".")?;
+    disk.create(e)?;
+    assert!(rt; notes.are(&[Open(1), Close(1)]));
+    disk.append(e, b"01234567")?;
+    disk.append(e, b"89")?;
+    disk.sync(e)?;
+    assert!(rt; notes.are(&[Open(2), Wrote(2), Wrote(2), SyncData(2)]));
+    disk.mark(e, *b"MARK")?;
+    disk.sync(e)?;
+    assert!(rt; notes.are(&[Open(3), Close(2), Wrote(3), SyncData(3)]));
+    disk.append(e, b"A")?;
+    disk.sync(e)?;
+    assert!(rt; notes.are(&[Open(4), Close(3), Wrote(4), SyncData(4)]));
+    disk.rename(e, f)?;
+    disk.sync_dir()?;
+    assert!(rt; notes.are(&[Close(4), Open(5), SyncAll(5), Close(5)]));
+    disk.sync(f)?;
+    assert!(rt; notes.are(&[Open(6), SyncData(6), Close(6)]));
+    assert!(rt; holds(&mut disk, f, b"0123MARK89A"));
+    disk.remove(f)?;
+    Ok(())
+}
+
+// Also a sync is tried anew by another handle: one that has told of a write that failed may answer well the next time.
+#[test]
+fn no_handle_is_kept_behind_a_failure(rt: HostRuntime) -> Result<(), Fail> {
+    let g = FileName::new(b"g").ok_or("g")?;
+    let notes = Notes::new();
+    let watched = Watched {
+        rt: &rt,
+        notes: &notes,
+    };
+    let mut disk = HostDisk::new(&watched, rt.alloc(), ".")?;
+    disk.create(g)?;
+    disk.append(g, b"1")?;
+    assert!(rt; holds(&mut disk, g, b"1"));
+    assert!(rt; notes.are(&[Open(1), Close(1), Open(2), Wrote(2), Open(3)]));
+    notes.fail_next();
+    assert_eq!(rt; disk.sync(g), Err(DiskErr::Failed));
+    assert!(rt; notes.are(&[SyncData(2), Close(3), Close(2)]));
+    notes.fail_next();
+    assert_eq!(rt; disk.append(g, b"2"), Err(DiskErr::Failed));
+    assert!(rt; notes.are(&[Open(4), Wrote(4), Close(4)]));
+    disk.append(g, b"3")?;
+    disk.sync(g)?;
+    assert!(rt; notes.are(&[Open(5), Wrote(5), SyncData(5)]));
+    assert!(rt; holds(&mut disk, g, b"13"));
+    disk.remove(g)?;
     Ok(())
 }
 

@@ -7,6 +7,7 @@ pub mod Images
 pub mod Moments
 pub mod Names
 pub mod Padded
+pub mod Prefixes
 pub mod Reached
 pub mod Shown
 pub mod Touched

@@ -3,7 +3,7 @@ use Rattle.std.specs.Prelude.{◌≡◌, ◌⊎◌, ℕ, ◌+◌, ◌<◌, ◌�
 use Rattle.file_trait.specs.declared.disk.DiskErr.{DiskErr}
 use Rattle.file_trait.specs.declared.disk.DiskErr.TheVariants.{Failed, Memory}
 use Rattle.file_trait.specs.Counts.{Rose}
-use Rattle.file_trait.specs.DiskModel.{Past, did, DiskOp, FileId, to_file, sync, sync_dir, append, named, content, reads, FileLeaves, DirLeaves}
+use Rattle.file_trait.specs.DiskModel.{Past, did, DiskOp, FileId, to_file, sync, sync_failed, sync_dir, append, named, content, reads, FileLeaves, DirLeaves, IsSure}
 
 abbrev pub IsThere : Past → List ℕ → Type 0
 IsThere past name = IsSome (reads past name)
@@ -31,14 +31,18 @@ Appended name bytes (Err Memory) old new = new ≡ old
 abbrev pub IsDurable : Past → List ℕ → Type 0
 IsDurable past name = (i : FileId) → named past name ≡ Some i → (bytes : List ℕ) → FileLeaves past i bytes → bytes ≡ content past i
 
+-- a sync of the file that has this name now, if it is answered well, makes all of it durable
+abbrev pub IsSureOf : Past → List ℕ → Type 0
+IsSureOf past name = (i : FileId) → named past name ≡ Some i → IsSure past i
+
 -- whatever directory a crash leaves is the one that is read
 abbrev pub IsDirDurable : Past → Type 0
 IsDirDurable past = (names : List ℕ → Option FileId) → DirLeaves past names → names ≡ named past
 
--- the file is synced; where nothing was pending this may take no moment
+-- the file is synced; where nothing was pending this may take no moment; where it failed it is not, and the next may not be sure
 abbrev pub Synced : List ℕ → Result Unit DiskErr → Past → Past → Type 0
 Synced name (Ok done) old new = (new ≡ did (sync name) old) ⊎ ((new ≡ old) × IsDurable old name)
-Synced name (Err Failed) old new = (new ≡ old) ⊎ (new ≡ did (sync name) old)
+Synced name (Err Failed) old new = (new ≡ old) ⊎ (new ≡ did (sync name) old) ⊎ (new ≡ did (sync_failed name) old)
 Synced name (Err Memory) old new = ⊥
 
 abbrev pub SyncedDir : Result Unit DiskErr → Past → Past → Type 0
@@ -53,12 +57,13 @@ pub record Copied (bytes : List ℕ) (at : ℕ) (old new : List ℕ) (n : ℕ) :
   pub some : 0 < length old → at < length bytes → 0 < n
 
 -- The count of faults never falls. `Failed` comes only where it rose, and then the names that the call was given are
--- blamed; any other answer blames as before.
+-- blamed; any other answer counts and blames as before.
 pub record Cause {T : Type 0} (names : List (List ℕ)) (faults faults_now : ℕ) (blamed blamed_now : List (List ℕ)) (result : Result T DiskErr) : Type 0 where
   pub later : faults ≤ faults_now
   pub failed : IsErrOf result Failed → Rose faults faults_now
   pub blames : IsErrOf result Failed → blamed_now ≡ names
   pub as_before : (IsErrOf result Failed → ⊥) → blamed_now ≡ blamed
+  pub uncounted : (IsErrOf result Failed → ⊥) → faults_now ≡ faults
 
 -- a call that changes the disk takes a moment at most, and one that looks takes none
 abbrev pub Follows : ℕ → ℕ → Type 0

@@ -2,9 +2,11 @@ pub mod Calls
 pub mod Counts
 pub mod DiskModel
 pub mod Faults
+pub mod Guard
 pub mod Moments
 pub mod Name
 pub mod Padded
+pub mod PrefixModel
 pub mod Shown
 pub mod Streams
 pub mod Touched

@@ -1,7 +1,9 @@
 //! What follows from what was done to a disk: how its files read, what a crash may leave, and what each moment keeps.
 
 ghost use Rattle.std.specs.Prelude.{◌≡◌, ◌≢◌, ◌≤◌, ◌⊎◌, ◌↔◌, ℕ, List, [], Option, None, Some, is_some, option_map, if◌then◌else◌};
-ghost use Rattle.file_trait.specs.DiskModel.{Past, handed, did, FileOp, DirOp, DiskOp, to_file, to_dir, create, rename, remove, sync, sync_dir, FileId, clock, same_name, named, changed, reads, FileLeaves, IsImage, Crashes, IsSettled, Partly, Spares, SparesFile, at_moment, doing};
+ghost use Rattle.file_trait.specs.DiskModel.{Past, handed, did, FileOp, DirOp, DiskOp, to_file, to_dir, create, rename, remove, sync, sync_failed, sync_dir, FileId, clock, same_name, named, changed, reads, PartDone, FileLeaves, IsHonest, IsImage, Crashes, IsSettled, Spares, SparesFile, at_moment, doing};
+ghost use Rattle.file_trait.specs.Calls.{IsSureOf};
+ghost use Rattle.file_trait.specs.PrefixModel.{IsPrefixImage};
 
 /// How the files read at first, and after each thing that is done. Syncs change how none reads: `frame_law`.
 #[tactic(none)]
@@ -25,18 +27,25 @@ pub fn image_laws()
     ensures handed { (files : List ℕ → Option (List ℕ)) → Crashes (λ image. (name : List ℕ) → image name ≡ files name) (handed files) }
 
     // A sync leaves of the file only what it reads as, one of the directory only the names that are read, and neither adds an image.
-    ensures sync { (past : Past) (name : List ℕ) → IsSettled past name → Crashes (λ image. image name ≡ reads past name) (did (sync name) past) }
+    ensures sync { (past : Past) (name : List ℕ) → IsSettled past name → IsSureOf past name → Crashes (λ image. image name ≡ reads past name) (did (sync name) past) }
     ensures sync_adds { (past : Past) (name : List ℕ) → Crashes (IsImage past) (did (sync name) past) }
     ensures sync_dir { (past : Past) → Crashes (λ image. (name : List ℕ) → is_some (image name) ≡ is_some (reads past name)) (did sync_dir past) }
     ensures sync_dir_adds { (past : Past) → Crashes (IsImage past) (did sync_dir past) }
     ensures settles { (past : Past) (name : List ℕ) → IsSettled (did sync_dir past) name }
 
-    // A change of a file adds only images in which that file alone has all of the change, or a front of an append.
-    ensures file { (past : Past) (name : List ℕ) (op : FileOp) → Crashes (Partly past name op) (did (to_file name op) past) }
+    // One that fails adds no image either.
+    ensures sync_failed_adds { (past : Past) (name : List ℕ) → Crashes (IsImage past) (did (sync_failed name) past) }
+
+    // A change of a file is done or not, and behind an append's file any bytes may stand.
+    ensures file { (past : Past) (name : List ℕ) (op : FileOp) (i : FileId) (bytes : List ℕ) → FileLeaves (did (to_file name op) past) i bytes
+        → FileLeaves past i bytes ⊎ ((named past name ≡ Some i) × ((before : List ℕ) × FileLeaves past i before × PartDone op before bytes)) }
+
+    // Each image that has of every file a prefix of what was done to it is one.
+    ensures prefixes { (past : Past) → (image : List ℕ → Option (List ℕ)) → IsPrefixImage past image → IsImage past image }
 
     // A creation, a rename or a removal leaves the old names or the new ones.
     ensures names { (past : Past) (op : DirOp) → Crashes (λ image. IsImage past image
-        ⊎ ((bytes : FileId → List ℕ) × ((i : FileId) → FileLeaves past i (bytes i)) × ((name : List ℕ) → image name ≡ option_map bytes (named (did (to_dir op) past) name))))
+        ⊎ ((bytes : FileId → List ℕ) × ((i : FileId) → FileLeaves past i (bytes i)) × ((i : FileId) → IsHonest past i (bytes i)) × ((name : List ℕ) → image name ≡ option_map bytes (named (did (to_dir op) past) name))))
         (did (to_dir op) past) }
 
     // Until the next sync a crash may leave either undone.

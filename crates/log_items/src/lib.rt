@@ -10,9 +10,9 @@ mod scanning;
 mod spans;
 
 pub use error::ItemErr;
-pub use first::{first_item, is_incomplete};
+pub use first::first_item;
 pub use laws::{item_law, place_law, span_law, written_law};
-pub use put::{put_head, put_item};
+pub use put::{head, put_head, put_item};
 pub use scanning::scan;
 pub use spans::{Scan, Span};
 

@@ -1,11 +1,10 @@
 //! Heads and items are laid out.
 
 ghost use Rattle.std.specs.Prelude.{◌≡◌, ◌<◌, ◌≤◌, ◌^◌, ◌++◌, ◌↔◌, ℕ, length, OnOk, OnErr, IfErr, IsErrOf};
-ghost use Rattle.log_items.specs.Items.{head_bytes, header, item_bytes};
-ghost use Rattle.log_items.specs.Scan.{StartsWith};
+ghost use Rattle.log_items.specs.Items.{head_bytes, header, item_bytes, StartsWith};
 
 use crate::ItemErr;
-use crate::header::{LARGE, MOST, large_header, small_header};
+use crate::header::{MOST, header_of};
 use std::alloc::AllocError;
 
 /// Puts the head of a file behind the bytes of `out`, with the mark that says closed or open. An error is `Memory`, and leaves
@@ -19,7 +18,8 @@ pub fn put_head(closed: bool, out: &mut Vec<u8>) -> Result<(), ItemErr>
     Ok(())
 }
 
-fn head(closed: bool) -> [u8; 8]
+/// The head of a file, with the mark that says closed or open.
+pub fn head(closed: bool) -> [u8; 8]
     ensures { result ≡ head_bytes closed }
 {
     if closed {
@@ -55,17 +55,14 @@ fn put_parts(content: &[u8], out: &mut Vec<u8>) -> Result<(), AllocError>
     ensures ok { OnOk result (out.new.items ≡ out.old.items ++ item_bytes content.now) }
     ensures err { OnErr result (StartsWith out.old.items out.new.items) }
 {
-    put_header(content.len() as u32, out)?;
+    put_header(content, out)?;
     out.extend_from_slice(content)
 }
 
-fn put_header(size: u32, out: &mut Vec<u8>) -> Result<(), AllocError>
-    ensures ok { OnOk result (out.new.items ≡ out.old.items ++ header size) }
+fn put_header(content: &[u8], out: &mut Vec<u8>) -> Result<(), AllocError>
+    requires { length content.now ≤ 2 ^ 28 }
+    ensures ok { OnOk result (out.new.items ≡ out.old.items ++ header content.now) }
     ensures err { OnErr result (out.new.items ≡ out.old.items) }
 {
-    if size < LARGE {
-        out.extend_from_slice(&small_header(size))
-    } else {
-        out.extend_from_slice(&large_header(size))
-    }
+    out.extend_from_slice(&header_of(content))
 }

@@ -10,10 +10,11 @@ use Rattle.file_trait.specs.DiskModel.{Past, reads, Crashes}
 use Rattle.file_trait.specs.Moments.{Moments}
 use Rattle.file_trait.specs.Shown.{ReadsAs}
 use Rattle.file_trait.proofs.Moments.{none_done, weaker}
-use Rattle.file_trait.proofs.Shown.{shown_crash}
 use Rattle.log_items.specs.Items.{log_bytes, HasItems}
 use Rattle.log_items.proofs.Unique.{written as whole_file}
-use Rattle.disk_logs.specs.Crash.{HasPrefix}
+use Rattle.disk_logs.specs.Crash.{HasPrefix, IsSound}
+use Rattle.disk_logs.proofs.Sound.{stands_sound}
+use Rattle.disk_logs.proofs.Standing.{stands_leaves}
 use Rattle.txn_log.specs.Logs.{LogState, Reads, TxnStands, Leaves}
 use Rattle.mn_run.specs.Commits.{IsRow, AreRows, AreCommits, AreItemsOf}
 use Rattle.mn_run.specs.Crash.{IsFront}
@@ -30,7 +31,7 @@ use Rattle.mn_run.proofs.Written.{front_of, stands_of, write_items}
 pub still_stands : (live : Live) (past : Past) (rows : List Tree) (durable : ℕ) → LiveShows live past rows durable → Stands (reads past) rows
 still_stands live past rows durable shown =
     let log = shown.log in
-    let kept = log.stands.1 in
+    let kept = log.stands.stands in
     inr ((log_bytes live.log.closed log.items, log.items, kept.read, write_items rows log.items log.are, (live.log.closed, whole_file live.log.closed log.items kept.fit)), shown.good)
 
 -- the front of a log's items has the front of its writes
@@ -64,7 +65,11 @@ read_front rows items least files good h (bytes, there, (n, low, high, listed)) 
 pub still_leaves : (live : Live) (past : Past) (rows : List Tree) (durable : ℕ) → LiveShows live past rows durable → Crashes (IsFront rows durable) past
 still_leaves live past rows durable shown image is =
     let log = shown.log in
-    read_front rows log.items durable image shown.good (write_items rows log.items log.are) (shown_crash past latest (HasPrefix log.items (suc durable)) log.stands.1.shown image is)
+    read_front rows log.items durable image shown.good (write_items rows log.items log.are) (stands_leaves past latest live.log.closed log.items (suc durable) log.stands.stands image is)
+
+-- a closed log may be trusted
+pub still_sound : (live : Live) (past : Past) (rows : List Tree) (durable : ℕ) → LiveShows live past rows durable → IsSound past latest
+still_sound live past rows durable shown = let log = shown.log in stands_sound past latest live.log.closed log.items (suc durable) log.stands.stands
 
 -- the front of some writes is one of more
 pub front_of_more : (rows more : List Tree) (least : ℕ) (files : Files) → IsFront rows least files → IsFront (rows ++ more) least files
@@ -78,6 +83,9 @@ none_written live past rows durable row shown =
 -- nothing was done
 pub none_done_yet : (live : Live) (past : Past) (rows : List Tree) (durable : ℕ) → LiveShows live past rows durable → Moments (Crashes (IsFront rows durable)) past past
 none_done_yet live past rows durable shown = none_done (Crashes (IsFront rows durable)) past past refl (still_leaves live past rows durable shown)
+
+pub still_sound_yet : (live : Live) (past : Past) (rows : List Tree) (durable : ℕ) → LiveShows live past rows durable → Moments (λ past. IsSound past latest) past past
+still_sound_yet live past rows durable shown = none_done (λ past. IsSound past latest) past past refl (still_sound live past rows durable shown)
 
 pub left_as : {T E P : Type 0} (r : Result T E) → P → OnErr r P
 left_as (Ok x) h = tt
@@ -129,5 +137,5 @@ all_synced live past rows table good log = record { table = table; log = subst (
 pub closed_log : {T E : Type 0} (r : Result T E) (past : Past) (log : LogState) (rows : List Tree) (synced : ℕ) → OnOk r (log.closed ≡ true) → OnOk r (TxnStands past log (map commit_for rows) synced)
     → OnOk r (IsLogOf true rows (reads past latest))
 closed_log (Ok done) past log rows synced closed h =
-    (h.items, write_items rows h.items h.are, h.stands.1.fit, h.stands.1.read ∙ ap (λ mark. Some (log_bytes mark h.items)) closed)
+    (h.items, write_items rows h.items h.are, h.stands.stands.fit, h.stands.stands.read ∙ ap (λ mark. Some (log_bytes mark h.items)) closed)
 closed_log (Err error) past log rows synced closed h = tt

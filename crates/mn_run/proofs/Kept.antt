@@ -5,17 +5,19 @@ use Rattle.std.proofs.lemmas.List.Elements.{All-nil}
 use Rattle.term_core.specs.Tree.{Tree}
 use Rattle.term_core.specs.View.{tree_of}
 use Rattle.file_trait.specs.Calls.{SyncedDir}
-use Rattle.file_trait.specs.DiskModel.{Past, reads, sync_dir, IsImage, Crashes}
+use Rattle.file_trait.specs.DiskModel.{Past, did, reads, sync_dir, IsImage, Crashes}
 use Rattle.file_trait.specs.Moments.{Moments}
+use Rattle.file_trait.specs.Touched.{Touches}
 use Rattle.file_trait.specs.declared.disk.DiskErr.{DiskErr}
 use Rattle.file_trait.specs.declared.disk.DiskErr.TheVariants.{Failed, Memory}
 use Rattle.file_trait.proofs.Changes.{sync_dir_adds_none}
 use Rattle.file_trait.proofs.Moments.{none_done, one_done, then_done, weaker, at_end}
+use Rattle.disk_logs.specs.Crash.{IsSound}
 use Rattle.log_items.specs.Items.{log_bytes}
 use Rattle.log_items.proofs.Unique.{written}
 use Rattle.txn_log.specs.Logs.{Reads, OldOrCommits, TxnStands}
 use Rattle.mn_run.specs.Commits.{IsRow, AreRows}
-use Rattle.mn_run.specs.Crash.{IsOldOr}
+use Rattle.mn_run.specs.Crash.{IsOldOr, StaysSound}
 use Rattle.mn_run.specs.Files.{Files, latest, IsLogOf, HasWrites, Stands}
 use Rattle.mn_run.specs.Loads.{Loads}
 use Rattle.mn_run.specs.Shown.{commit_for, LiveShows}
@@ -24,7 +26,7 @@ use Rattle.mn_run.specs.declared.live.Live.{Live}
 use Rattle.mn_run.proofs.Meaning.{one_base}
 use Rattle.mn_run.proofs.Written.{reads_of, stands_of}
 
--- a log without an incomplete item
+-- a log without anything behind its items
 pub log_has : (closed : Bool) (rows : List Tree) (file : Option (List ℕ)) → IsLogOf closed rows file → HasWrites rows file
 log_has closed rows file (items, commits, small, is) = (log_bytes closed items, items, is, commits, (closed, written closed items small))
 
@@ -47,6 +49,32 @@ sync_moments (Ok x) old new (inr (is, durable)) = none_done (IsEarlier old) old 
 sync_moments (Err Failed) old new (inl is) = none_done (IsEarlier old) old new is (now_earlier old)
 sync_moments (Err Failed) old new (inr is) = one_done (IsEarlier old) sync_dir old new is (now_earlier old) (sync_dir_adds_none old)
 sync_moments (Err Memory) old new never = absurd never
+
+-- a closed log stays as trusted as it was
+sync_sound : (past : Past) → IsSound past latest → IsSound (did sync_dir past) latest
+sync_sound past sound i items is fit closed =
+    let s = sound i items is fit closed in (λ n item low guarded stood. elim stood [ inl now ↦ now | inr before ↦ s.0 n item low guarded before ], s.1)
+
+pub sync_stays : (r : Result Unit DiskErr) (old new : Past) → SyncedDir r old new → StaysSound old new
+sync_stays (Ok x) old new (inl is) sound = one_done (λ past. IsSound past latest) sync_dir old new is sound (sync_sound old sound)
+sync_stays (Ok x) old new (inr (is, durable)) sound = none_done (λ past. IsSound past latest) old new is sound
+sync_stays (Err Failed) old new (inl is) sound = none_done (λ past. IsSound past latest) old new is sound
+sync_stays (Err Failed) old new (inr is) sound = one_done (λ past. IsSound past latest) sync_dir old new is sound (sync_sound old sound)
+sync_stays (Err Memory) old new never sound = absurd never
+
+pub nothing_stays : (old new : Past) → new ≡ old → StaysSound old new
+nothing_stays old new is sound = none_done (λ past. IsSound past latest) old new is sound
+
+-- then the directory was synced, and the log was opened
+pub synced_stays : (old read new : Past) → read ≡ old → StaysSound read new → StaysSound old new
+synced_stays old read new is stays = subst (λ p. StaysSound p new) is stays
+
+pub sound_now : (old new : Past) → StaysSound old new → IsSound old latest → IsSound new latest
+sound_now old new stays sound = at_end (λ past. IsSound past latest) old new (stays sound)
+
+pub opened_stays : (old read mid new : Past) → read ≡ old → StaysSound read mid → StaysSound mid new → StaysSound old new
+opened_stays old read mid new is first second sound =
+    let begun = synced_stays old read mid is first in then_done (λ past. IsSound past latest) old mid new (begun sound) (second (sound_now old mid begun sound))
 
 -- ---- the moments of a start
 
@@ -72,6 +100,10 @@ opened_moments old read mid new base stands is first second =
     by : (image : Files) → ((earlier : Files) × IsImage mid earlier × (image latest ≡ earlier latest)) ⊎ Reads (map commit_for base) (image latest) → IsOldOr old base image
     by image (inl (earlier, left, same)) = inl (earlier, subst (λ p. IsImage p earlier) is (at_end (IsEarlier read) read mid first earlier left), same)
     by image (inr has) = inr (stands_of image base good has)
+
+-- over a closed log nothing is written
+pub untouched_log : (old read mid new : Past) → read ≡ old → Touches (λ n. ⊥) read mid → new ≡ mid → Touches (λ n. ⊥) old new
+untouched_log old read mid new is synced same = subst (λ p. Touches (λ n. ⊥) p new) is (subst (λ p. Touches (λ n. ⊥) read p) (sym same) synced)
 
 -- ---- what was opened
 

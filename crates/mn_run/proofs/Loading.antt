@@ -1,28 +1,24 @@
 -- How a log makes a table.
-use Rattle.std.proofs.Common.{◌≡◌, ◌⊎◌, ℕ, zero, suc, ◌+◌, ◌<◌, ◌≤◌, false, if◌then◌else◌, List, [], ◌∷◌, ◌++◌, length, take, drop, get_or, None, Some, Result, Ok, Err, refl, sym, ap, ◌∙◌, subst, inl, inr, arith}
-use Rattle.std.specs.Prelude.{slice_get, map, IfOk, IsTrue, ◌↔◌, Bool}
-use Rattle.std.proofs.lemmas.Bool.{cases_lt}
-use Rattle.std.proofs.lemmas.Option.{get_or_from_slice_get}
-use Rattle.std.proofs.lemmas.List.{take_all, take-append-drop, length-take-le}
+use Rattle.std.proofs.Common.{◌≡◌, ℕ, zero, suc, ◌+◌, ◌≤◌, if◌then◌else◌, List, [], ◌∷◌, ◌++◌, length, take, drop, Some, Result, Ok, Err, refl, sym, ap, ◌∙◌, subst, inl, inr, arith}
+use Rattle.std.specs.Prelude.{slice_get, map, IfSome, not, Option}
+use Rattle.std.proofs.lemmas.List.{take-append-drop, length-take-le}
 use Rattle.std.proofs.lemmas.List.Elements.{All-append, All-cons, All-nil}
 use Rattle.term_core.specs.Tree.{Tree}
-use Rattle.file_trait.specs.DiskModel.{Past, reads}
-use Rattle.disk_logs.specs.Chunks.{places_of, IsPlace, HasPlace}
-use Rattle.log_items.specs.Items.{wire, HasItems}
-use Rattle.disk_logs.specs.Logs.{HasLog}
+use Rattle.log_items.specs.Items.{wire}
+use Rattle.disk_logs.specs.Logs.{FileRead, IsRead, HasRead}
 use Rattle.disk_logs.specs.declared.error.LogErr.{LogErr}
 use Rattle.disk_logs.specs.declared.error.LogErr.TheVariants as log_err
 use Rattle.txn_log.specs.Logs.{IsWrong}
 use Rattle.txn_log.proofs.CommitLists.{reads_not_wrong}
-use Rattle.mn_run.specs.Commits.{IsRow, AreRows, IsCommit, IsNoCommit, AreCommits, AreItemsOf, IsHead}
-use Rattle.mn_run.specs.Files.{Files, latest, LacksHead, IsWrongAt, NoMeaning}
-use Rattle.mn_run.specs.Loads.{IsLogFile, MakesTable, Loads, StartCause, start_error}
+use Rattle.mn_run.specs.Commits.{IsRow, AreRows, IsCommit, IsNoCommit, AreCommits, AreItemsOf}
+use Rattle.mn_run.specs.Files.{Files, latest, IsWrongAt, NoMeaning}
+use Rattle.mn_run.specs.Loads.{Loads, StartCause, start_error}
 use Rattle.mn_run.specs.Shown.{commit_for}
 use Rattle.mn_run.specs.Steps.{StartsDamaged}
 use Rattle.mn_run.specs.Tables.{records_of, has_key, written}
 use Rattle.mn_run.specs.declared.starting.StartErr.{StartErr}
 use Rattle.mn_run.specs.declared.starting.StartErr.TheVariants as start
-use Rattle.mn_run.proofs.Meaning.{exclusive, one_meaning, place_at, written_more}
+use Rattle.mn_run.proofs.Meaning.{exclusive, one_meaning, written_more}
 use Rattle.mn_run.proofs.Written.{reads_of}
 use Rattle.mn_run.proofs.Rows.{records_put}
 
@@ -32,16 +28,6 @@ drop_at : (items : List (List ℕ)) (n : ℕ) (item : List ℕ) → slice_get it
 drop_at [] n item is = absurd (cc)
 drop_at (first ∷ items) zero item is = cc
 drop_at (first ∷ items) (suc n) item is = drop_at items n item is
-
--- an item that is no commit stands at its place
-pub wrong_here : (places : List ℕ) (items : List (List ℕ)) (n : ℕ) (own name : List ℕ) (at : ℕ) (content : List ℕ) → places ≡ places_of 8 items → n < length items → own ≡ latest → slice_get items n ≡ Some content → IsNoCommit content
-    → start.Damaged own (get_or places n 0) ≡ start.Damaged name at
-    → (name ≡ latest) × (at ≡ 8 + length (wire (take n items))) × (x : List ℕ) × (slice_get items n ≡ Some x) × IsNoCommit x
-wrong_here places items n own name at content places_is lt own_is found none is =
-    let same_name : own ≡ name = cc in
-    let same_place : get_or places n 0 ≡ at = cc in
-    let place : get_or places n 0 ≡ 8 + length (wire (take n items)) = ap (λ xs. get_or xs n 0) places_is ∙ get_or_from_slice_get (places_of 8 items) n (8 + length (wire (take n items))) 0 (place_at 8 items n lt) in
-    (sym same_name ∙ own_is, sym same_place ∙ place, content, found, none)
 
 -- one more commit behind these
 commits_more : (rows : List Tree) (contents : List (List ℕ)) (row : Tree) (content : List ℕ) → AreCommits rows contents → IsCommit content row → AreCommits (rows ++ row ∷ []) (contents ++ content ∷ [])
@@ -92,54 +78,16 @@ table_more rows row old new same put key =
 
 -- ---- all items
 
-take_short : (n : ℕ) (items : List (List ℕ)) → length (take n items) < n → take n items ≡ items
-take_short n items lt = by (cases_lt (length items) n)
-  where
-    by : (length items < n) ⊎ (n ≤ length items) → take n items ≡ items
-    by (inl short) = take_all n items (omega (arith, short))
-    by (inr long) = absurd (omega (arith, lt, length-take-le n items long))
+-- a file was found
+pub read_there : (file : Option (List ℕ)) (found : Option FileRead) (log : FileRead) → found ≡ Some log → HasRead (Ok found) file → file ≡ Some log.bytes
+read_there file found log is has = subst (λ (f : Option FileRead). HasRead (Ok f) file) is has
 
-pub taken_all : (most : ℕ) (all items : List (List ℕ)) → items ≡ take most (drop 0 all) → length items < most → items ≡ all
-taken_all most all items is lt = is ∙ take_short most all (subst (λ xs. length xs < most) is lt)
+pub read_whole : (found : Option FileRead) (log : FileRead) → found ≡ Some log → IfSome found IsRead → IsRead log
+read_whole found log is whole = subst (λ (f : Option FileRead). IfSome f IsRead) is whole
 
-pub ok_map : {T E : Type 0} {P Q : T → Type 0} (r : Result T E) → ((x : T) → P x → Q x) → IfOk r P → IfOk r Q
-ok_map (Ok x) f h = f x h
-ok_map (Err e) f h = h
-
--- the items of the log, all of them
-pub record IsRead (files : Files) (items : List (List ℕ)) : Type 0 where
-  pub bytes : List ℕ
-  pub there : files latest ≡ Some bytes
-  pub has : HasItems bytes items
-
-pub all_read : (files : Files) (most : ℕ) (items : List (List ℕ)) → IsLogFile (files latest) → ((bytes : List ℕ) (all : List (List ℕ)) → files latest ≡ Some bytes → IsPlace bytes all 0 8 → items ≡ take most (drop 0 all))
-    → length items < most → IsRead files items
-all_read files most items (bytes, all, there, has) given short =
-    record { bytes = bytes; there = there; has = subst (HasItems bytes) (sym (taken_all most all items (given bytes all there (has, refl)) short)) has }
-
-pub loads_of : (files : Files) (items : List (List ℕ)) (table : List Tree) → IsRead files items → MakesTable items table → Loads files table
-loads_of files items table read made = record { rows = made.rows; stands = inr ((read.bytes, items, read.there, made.commits, read.has), made.good); same = made.same }
-
-pub wrong_log : (files : Files) (items : List (List ℕ)) (at : ℕ) → IsRead files items → IsWrongAt items at → NoMeaning files at
-wrong_log files items at read wrong = (read.bytes, read.there, inr (items, read.has, wrong))
-
--- ---- the first item
-
-pub head_first : {E : Type 0} (items : List (List ℕ)) (first : List ℕ) (r : Result Bool E) → slice_get items 0 ≡ Some first → IfOk r (λ is. IsTrue is ↔ IsHead first) → IfOk r (λ has. (IsTrue has → AreItemsOf [] (take 1 items)) × (has ≡ false → LacksHead items))
-head_first items first (Err e) is h = tt
-head_first [] first (Ok has) is h = absurd (cc)
-head_first (x ∷ items) first (Ok has) is h =
-    let same : x ≡ first = cc in
-    (λ yes. (subst IsHead (sym same) (h.0 yes), tt), λ other y others e head. let again : y ≡ first = cc in let yes = h.1 (subst IsHead again head) in cc (yes, other))
-
-pub no_first : (items : List (List ℕ)) → slice_get items 0 ≡ None → LacksHead items
-no_first [] is = λ first others same head. cc same
-no_first (x ∷ items) is = absurd (cc)
-
--- ---- the log's file
-
-pub first_place : (past : Past) → IsLogFile (reads past latest) → HasPlace past latest 8
-first_place past (bytes, items, there, has) = (bytes, items, 0, there, (has, refl))
+-- the log as it was read has other items
+pub wrong_log : (files : Files) (log : FileRead) (at : ℕ) → files latest ≡ Some log.bytes → IsRead log → IsWrongAt log.items at → NoMeaning files at
+wrong_log files log at there is wrong = (log.bytes, there, inr (log.items, (not log.was_open, is), wrong))
 
 pub loaded_means : (files : Files) (table : List Tree) (at : ℕ) → Loads files table → NoMeaning files at → ⊥
 loaded_means files table at loads none = exclusive files loads.rows at loads.stands none
@@ -156,12 +104,12 @@ bad_of (log_err.Bad other place) name at is =
 bad_of log_err.TooLong name at is = absurd (cc)
 bad_of log_err.Memory name at is = absurd (cc)
 
--- a log that was checked
-pub check_damaged : (files : Files) (error : LogErr) (name : List ℕ) (at : ℕ) → HasLog (Err error) (files latest) → start_error error ≡ start.Damaged name at → NoMeaning files at
-check_damaged files error name at found is = let bad = bad_of error name at is in by bad.1 bad.2
+-- a log that could not be read
+pub read_damaged : (files : Files) (error : LogErr) (name : List ℕ) (at : ℕ) → HasRead (Err error) (files latest) → start_error error ≡ start.Damaged name at → NoMeaning files at
+read_damaged files error name at found is = let bad = bad_of error name at is in by bad.1 bad.2
   where
     by : (other : List ℕ) → error ≡ log_err.Bad other at → NoMeaning files at
-    by other bad = let here = subst (λ e. HasLog (Err e) (files latest)) bad found in (here.0, here.1, inl here.2)
+    by other bad = let here = subst (λ e. HasRead (Err e) (files latest)) bad found in (here.0, here.1, inl here.2)
 
 -- a log that was loaded has its commits, and opens
 pub loaded_opens : (files : Files) (table : List Tree) (at : ℕ) → Loads files table → IsWrong at (files latest) → ⊥

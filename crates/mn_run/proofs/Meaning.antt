@@ -1,12 +1,10 @@
 -- What a directory stands for: one list of writes, or no meaning from one place on.
-use Rattle.std.proofs.Common.{◌≡◌, ◌⊎◌, ℕ, zero, suc, ◌+◌, ◌<◌, List, [], ◌∷◌, ◌++◌, length, take, Option, Some, refl, sym, ap, ◌∙◌, subst, inl, inr, arith, length-append}
-use Rattle.std.specs.Prelude.{slice_get}
+use Rattle.std.proofs.Common.{◌≡◌, ◌⊎◌, ℕ, suc, ◌+◌, List, [], ◌∷◌, ◌++◌, length, take, Option, Some, refl, sym, ap, ◌∙◌, subst, inl, inr}
 use Rattle.std.proofs.lemmas.List.Elements.{All-head, All-tail}
 use Rattle.term_core.specs.Tree.{Tree}
-use Rattle.log_items.specs.Items.{item_bytes, wire, HasItems}
+use Rattle.log_items.specs.Items.{wire, HasItems}
 use Rattle.log_items.specs.Scan.{IsBadAt}
 use Rattle.log_items.proofs.Unique.{one_list, file_not_bad, one_place}
-use Rattle.disk_logs.specs.Chunks.{places_of}
 use Rattle.mn_run.specs.Commits.{IsRow, AreRows, IsCommit, IsNoCommit, AreCommits, AreItemsOf}
 use Rattle.mn_run.specs.Files.{Files, latest, Stands, LacksHead, IsWrongFrom, IsWrongAt, IsWrongLogAt, NoMeaning}
 use Rattle.mn_run.specs.Tables.{put_record, written}
@@ -129,18 +127,6 @@ one_in_file bytes at other (inr (items, listed, wrong)) (inr (others, also, wors
 pub one_meaning : (files : Files) (at other : ℕ) → NoMeaning files at → NoMeaning files other → at ≡ other
 one_meaning files at other (bytes, there, bad) (texts, here, also) =
     one_in_file texts at other (subst (λ b. IsBadAt b at ⊎ IsWrongLogAt b at) (one_file (files latest) bytes texts there here) bad) also
-
--- ---- places of items
-
-pub place_at : (from : ℕ) (items : List (List ℕ)) (n : ℕ) → n < length items → slice_get (places_of from items) n ≡ Some (from + length (wire (take n items)))
-place_at from [] n lt = absurd (omega (arith, lt))
-place_at from (item ∷ items) zero lt = ap Some (omega arith)
-place_at from (item ∷ items) (suc n) lt =
-    place_at (from + length (item_bytes item)) items n (omega (arith, lt)) ∙ ap Some (omega (arith, length-append (item_bytes item) (wire (take n items))))
-
-pub places_length : (from : ℕ) (items : List (List ℕ)) → length (places_of from items) ≡ length items
-places_length from [] = refl
-places_length from (item ∷ items) = ap suc (places_length (from + length (item_bytes item)) items)
 
 -- ---- the writes in order
 

@@ -11,7 +11,7 @@ use Rattle.mn_run.specs.Shown.{Shows, ShowsLife, ShowsBase, LiveShows}
 use Rattle.mn_run.specs.declared.live.Live.{Live}
 use Rattle.mn_run.specs.declared.node.State.{State}
 use Rattle.mn_run.specs.declared.node.State.TheVariants.{Up}
-use Rattle.mn_run.proofs.Acts.{still_stands, still_leaves}
+use Rattle.mn_run.proofs.Acts.{still_stands, still_leaves, still_sound}
 
 -- ---- what a crash leaves once a start was answered well
 
@@ -71,4 +71,5 @@ up_shown first now live base entries durable new life begun sure based many sync
   held = holds_kept (reads now) new new.entries (begun_whole base new begun based) (inl refl) (still_stands live now (all_of new) (length new.base + new.durable) h);
   untouched = λ at damage. no_place new.damage (now ≡ first) at (begun_whole base new begun based) damage;
   leaves = λ image is. front_is first new [] (all_of new) (length new.base + new.durable) image begun (no_more new) refl (still_leaves live now (all_of new) (length new.base + new.durable) h image is);
+  sound = λ whole. still_sound live now (all_of new) (length new.base + new.durable) h;
 }

@@ -6,7 +6,8 @@ use Rattle.file_trait.specs.DiskModel.{Past, reads, Crashes}
 use Rattle.file_trait.specs.Moments.{Moments}
 use Rattle.file_trait.proofs.Moments.{weaker, at_end, none_done}
 use Rattle.txn_log.specs.Logs.{IsLogName}
-use Rattle.mn_run.specs.Crash.{IsOldOr, Leaves, LeavesAs}
+use Rattle.disk_logs.specs.Crash.{IsSound}
+use Rattle.mn_run.specs.Crash.{IsOldOr, Leaves, LeavesAs, StaysSound}
 use Rattle.mn_run.specs.Files.{Files, latest, HasWrites, Stands, NoMeaning, Holds, HoldsAt}
 use Rattle.mn_run.specs.Machine.{Machine, IsKept, Life, runs, faulted, starved, with_life, booted}
 use Rattle.mn_run.specs.Orders.{start, Answer, started, fault, no_memory, damaged}
@@ -141,7 +142,7 @@ module _ (first before now : Past) (node : Node) (machine : Machine) (h : Shows 
 
     -- ---- a start that brings the node up
 
-    module _ (live : Live) (shows : LiveShows live now writes (length writes)) (moments : Moments (Crashes (IsOldOr before writes)) before now) where
+    module _ (live : Live) (shows : LiveShows live now writes (length writes)) (moments : Moments (Crashes (IsOldOr before writes)) before now) (stays : StaysSound before now) where
       commits_many : live.log.commits ≡ length machine.base + length k.kept
       commits_many = shows.log.count ∙ length-map writes commit_for ∙ length-append machine.base k.kept
 
@@ -152,6 +153,7 @@ module _ (first before now : Past) (node : Node) (machine : Machine) (h : Shows 
         shows = up_shown first now live (Some live.log.commits) 0 0 (booted k.kept machine) refl refl refl (refl, refl, commits_many ∙ sym (length-append machine.base k.kept)) refl refl (omega arith)
             (subst (λ (rows : List Tree). LiveShows live now rows (length writes + 0)) (sym (append-nil writes)) (subst (λ n. LiveShows live now writes n) (omega arith) shows));
         during = start_during moments;
+        sound = stays;
       }
 
       count_first : node.base ≡ None → 0 ≡ length k.kept
@@ -176,10 +178,10 @@ module _ (first before now : Past) (node : Node) (machine : Machine) (h : Shows 
               (start_counts (live.log.commits - base) (count_later base is))
 
   pub start_done : (live : Live) (answer : Answer) (new : Node) → new ≡ record { state = Up live; base = Some live.log.commits; entries = 0; durable = 0 } → (node.base ≡ None → answer ≡ started 0)
-      → ((base : ℕ) → node.base ≡ Some base → answer ≡ started (live.log.commits - base)) → ((rows : List Tree) → Stands (reads before) rows → LiveShows live now rows (length rows))
-      → ((rows : List Tree) → Stands (reads before) rows → Moments (Crashes (IsOldOr before rows)) before now) → ((at : ℕ) → NoMeaning (reads before) at → ⊥) → Steps first machine start answer new before now
-  start_done live answer new node_is at_first later shows moments meaning = elim (kept_or_broken machine (reads before) h.held) [
-    | inl k ↦ start_ups k live (shows (machine.base ++ k.kept) k.stands) (moments (machine.base ++ k.kept) k.stands) answer new node_is at_first later
+      → ((base : ℕ) → node.base ≡ Some base → answer ≡ started (live.log.commits - base)) → (IsSound before latest → (rows : List Tree) → Stands (reads before) rows → LiveShows live now rows (length rows))
+      → ((rows : List Tree) → Stands (reads before) rows → Moments (Crashes (IsOldOr before rows)) before now) → StaysSound before now → ((at : ℕ) → NoMeaning (reads before) at → ⊥) → Steps first machine start answer new before now
+  start_done live answer new node_is at_first later shows moments stays meaning = elim (kept_or_broken machine (reads before) h.held) [
+    | inl k ↦ start_ups k live (shows (h.sound k.whole) (machine.base ++ k.kept) k.stands) (moments (machine.base ++ k.kept) k.stands) stays answer new node_is at_first later
     | inr b ↦ absurd (meaning b.place b.none)
   ]
 
@@ -196,6 +198,7 @@ module _ (first before now : Past) (node : Node) (machine : Machine) (h : Shows 
     held : Holds (reads now) machine
     untouched : (at : ℕ) → machine.damage ≡ Some at → now ≡ first
     during : Moments (Crashes (Leaves first machine [])) before now
+    stays : StaysSound before now
 
   left_shown : (state : State) (life : Life) → ShowsLife state now (with_life life machine) → IsLeft → Shows first (record { state = state; base = node.base; entries = node.entries; durable = node.durable }) now (with_life life machine)
   left_shown state life lives left = record {
@@ -208,6 +211,7 @@ module _ (first before now : Past) (node : Node) (machine : Machine) (h : Shows 
     held = holds_life (reads now) life machine machine.damage left.held;
     untouched = left.untouched;
     leaves = at_end (Crashes (Leaves first machine [])) before now left.during;
+    sound = λ whole. at_end (λ past. IsSound past latest) before now (left.stays (h.sound whole));
   }
 
   start_fails : (error : StartErr) (answer : Answer) (new : Node) → answer ≡ start_answer error → Unstarts error new → ((name : List ℕ) → error ≡ variants.Fault name → IsLogName name) → IsLeft
@@ -218,6 +222,7 @@ module _ (first before now : Past) (node : Node) (machine : Machine) (h : Shows 
         change = (is_off, named name refl, refl);
         shows = left_shown Faulted faulted refl left;
         during = left.during;
+        sound = left.stays;
       })
   start_fails variants.Memory answer new answer_is u named left broken =
       steps_at first before now machine start answer no_memory new (record { state = Starved; base = node.base; entries = node.entries; durable = node.durable }) answer_is (u.memory refl) (record {
@@ -225,6 +230,7 @@ module _ (first before now : Past) (node : Node) (machine : Machine) (h : Shows 
         change = (is_off, refl);
         shows = left_shown Starved starved refl left;
         during = left.during;
+        sound = left.stays;
       })
   start_fails (variants.Damaged name at) answer new answer_is u named left broken =
       let (name_is, place, same) = broken name at refl in
@@ -233,20 +239,22 @@ module _ (first before now : Past) (node : Node) (machine : Machine) (h : Shows 
         change = (is_off, name_is, place, refl);
         shows = subst (λ (past : Past). Shows first node past machine) (sym same) h;
         during = left.during;
+        sound = left.stays;
       })
 
   place_is : (name : List ℕ) (place at : ℕ) (error : StartErr) → error ≡ variants.Damaged name place → StartsDamaged at error → (name ≡ latest) × (place ≡ at)
   place_is name place at error is h = subst (StartsDamaged at) is h
 
   pub start_failed : (error : StartErr) (answer : Answer) (new : Node) → answer ≡ start_answer error → Unstarts error new → ((name : List ℕ) → error ≡ variants.Fault name → IsLogName name)
-      → ((rows : List Tree) → Stands (reads before) rows → Stands (reads now) rows) → ((rows : List Tree) → Stands (reads before) rows → Moments (Crashes (IsOldOr before rows)) before now)
+      → ((rows : List Tree) → Stands (reads before) rows → Stands (reads now) rows) → ((rows : List Tree) → Stands (reads before) rows → Moments (Crashes (IsOldOr before rows)) before now) → StaysSound before now
       → ((name : List ℕ) (at : ℕ) → error ≡ variants.Damaged name at → (name ≡ latest) × NoMeaning (reads before) at) → ((at : ℕ) → NoMeaning (reads before) at → StartsDamaged at error)
       → ((at : ℕ) → NoMeaning (reads before) at → now ≡ before) → Steps first machine start answer new before now
-  start_failed error answer new answer_is u named stands moments none_found meaning same = elim (kept_or_broken machine (reads before) h.held) [
+  start_failed error answer new answer_is u named stands moments stays none_found meaning same = elim (kept_or_broken machine (reads before) h.held) [
     | inl k ↦ start_fails error answer new answer_is u named (record {
       held = holds_kept (reads now) machine k.kept k.whole k.is (stands (machine.base ++ k.kept) k.stands);
       untouched = λ at damage. no_place machine.damage (now ≡ first) at k.whole damage;
       during = start_during k (moments (machine.base ++ k.kept) k.stands);
+      stays = stays;
     }) (λ name at is. absurd (exclusive (reads before) (machine.base ++ k.kept) at k.stands (none_found name at is).1))
     | inr b ↦
         let unchanged : now ≡ before = same b.place b.none in
@@ -254,5 +262,6 @@ module _ (first before now : Past) (node : Node) (machine : Machine) (h : Shows 
           held = subst (λ (past : Past). Holds (reads past) machine) (sym unchanged) h.held;
           untouched = λ at damage. unchanged ∙ h.untouched at damage;
           during = none_done (Crashes (Leaves first machine [])) before now unchanged h.leaves;
+          stays = stays;
         }) (λ name at is. let found = place_is name at b.place error is (meaning b.place b.none) in (found.0, b.is ∙ ap (λ n. Some n) (sym found.1), unchanged))
   ]

@@ -5,6 +5,7 @@ use Rattle.term_core.specs.Tree.{Tree}
 use Rattle.file_trait.specs.DiskModel.{Past, reads, Crashes}
 use Rattle.file_trait.specs.Moments.{Moments}
 use Rattle.file_trait.proofs.Moments.{at_end}
+use Rattle.disk_logs.specs.Crash.{IsSound}
 use Rattle.disk_logs.specs.Errors.{OnlyFile, OnlyFileOrMemory}
 use Rattle.disk_logs.specs.declared.error.LogErr.{LogErr}
 use Rattle.disk_logs.specs.declared.error.LogErr.TheVariants.{File, Bad, TooLong, Memory}
@@ -19,11 +20,15 @@ use Rattle.mn_run.specs.declared.live.Live.{Live}
 use Rattle.mn_run.specs.declared.node.Node.{Node}
 use Rattle.mn_run.specs.declared.node.State.TheVariants.{Up, Stopped, Faulted}
 use Rattle.mn_run.proofs.NodeFacts.{front_is, during_is, no_more, begun_whole, base_kept, holds_kept, no_place, known_kept, up_shows, up_shown}
-use Rattle.mn_run.proofs.Acts.{still_stands, still_leaves}
+use Rattle.mn_run.proofs.Acts.{still_stands, still_leaves, still_sound}
 
 -- how many of all writes are durable
 abbrev pub durable_of : Machine → ℕ
 durable_of machine = length machine.base + machine.durable
+
+-- a closed log may be trusted at each moment
+abbrev pub Sounds : Past → Past → Type 0
+Sounds before now = Moments (λ past. IsSound past latest) before now
 
 -- the node as a call left it, with the answer that it gave
 pub steps_at : (first before now : Past) (machine : Machine) (order : Order) (answer given : Answer) (left new : Node) → answer ≡ given → left ≡ new → Steps first machine order given new before now
@@ -67,9 +72,9 @@ module _ (first before now : Past) (node : Node) (live : Live) (machine : Machin
   kept_shown new_live shows = up_shown first now new_live node.base node.entries node.durable machine is_running is_begun is_sure h.base h.entries h.durable within shows
 
   -- the disk failed where nothing was written
-  faulted_shown : Stands (reads now) (all_of machine) → Moments (Crashes (Leaves first machine [])) before now
+  faulted_shown : Stands (reads now) (all_of machine) → Moments (Crashes (Leaves first machine [])) before now → Sounds before now
       → Shows first (record { state = Faulted; base = node.base; entries = node.entries; durable = node.durable }) now (with_life faulted machine)
-  faulted_shown stands during = record {
+  faulted_shown stands during sounds = record {
     life = refl;
     base = base_kept node.base machine (with_life faulted machine) is_begun refl refl refl h.base;
     entries = h.entries;
@@ -79,14 +84,15 @@ module _ (first before now : Past) (node : Node) (live : Live) (machine : Machin
     held = holds_kept (reads now) (with_life faulted machine) machine.entries is_whole (inl refl) stands;
     untouched = λ at damage. no_place machine.damage (now ≡ first) at is_whole damage;
     leaves = at_end (Crashes (Leaves first machine [])) before now during;
+    sound = λ whole. at_end (λ past. IsSound past latest) before now sounds;
   }
 
   -- ---- a stop
 
   pub stop_done : (new_live : Live) → LiveShows new_live now (all_of machine) (length (all_of machine)) → IsLogOf true (all_of machine) (reads now latest)
-      → Moments (Crashes (IsFront (all_of machine) (durable_of machine))) before now
+      → Moments (Crashes (IsFront (all_of machine) (durable_of machine))) before now → Sounds before now
       → Steps first machine stop stopped (record { state = Stopped; base = node.base; entries = node.entries; durable = node.entries }) before now
-  stop_done new_live shows closed moments =
+  stop_done new_live shows closed moments sounds =
       let new : Machine = with_life halted (all_durable machine) in
       record {
         new = new;
@@ -102,8 +108,10 @@ module _ (first before now : Past) (node : Node) (live : Live) (machine : Machin
           untouched = λ at damage. no_place machine.damage (now ≡ first) at is_whole damage;
           leaves = λ image is. front_is first new [] (all_of machine) (length (all_of machine)) image is_begun (no_more machine) rows_many
               (still_leaves new_live now (all_of machine) (length (all_of machine)) shows image is);
+          sound = λ whole. still_sound new_live now (all_of machine) (length (all_of machine)) shows;
         };
         during = no_more_during moments;
+        sound = λ sound. sounds;
       }
 
   -- what a call of the log that failed left
@@ -114,6 +122,7 @@ module _ (first before now : Past) (node : Node) (live : Live) (machine : Machin
     pub kept : error ≡ Memory → LiveShows new_live now (all_of machine) (durable_of machine)
     pub left : Stands (reads now) (all_of machine)
     pub moments : Moments (Crashes (IsFront (all_of machine) (durable_of machine))) before now
+    pub sounds : Sounds before now
 
   pub stop_failed : (error : LogErr) (answer : Answer) (new_live : Live) (new : Node) → answer ≡ failed_answer error → OnlyFileOrMemory {T = Unit {0}} (Err error) → Failed error new_live new
       → Steps first machine stop answer new before now
@@ -121,8 +130,9 @@ module _ (first before now : Past) (node : Node) (live : Live) (machine : Machin
       steps_at first before now machine stop answer (fault name) new (record { state = Faulted; base = node.base; entries = node.entries; durable = node.durable }) answer_is (f.file name refl) (record {
         new = with_life faulted machine;
         change = (is_running, f.named name refl, refl);
-        shows = faulted_shown f.left (no_more_during f.moments);
+        shows = faulted_shown f.left (no_more_during f.moments) f.sounds;
         during = no_more_during f.moments;
+        sound = λ sound. f.sounds;
       })
   stop_failed Memory answer new_live new answer_is only f =
       steps_at first before now machine stop answer no_memory new (record { state = Up new_live; base = node.base; entries = node.entries; durable = node.durable }) answer_is (f.memory refl) (record {
@@ -130,6 +140,7 @@ module _ (first before now : Past) (node : Node) (live : Live) (machine : Machin
         change = (is_running, refl);
         shows = kept_shown new_live (f.kept refl);
         during = no_more_during f.moments;
+        sound = λ sound. f.sounds;
       })
   stop_failed (Bad name at) answer new_live new answer_is only f = absurd only
   stop_failed TooLong answer new_live new answer_is only f = absurd only
@@ -150,14 +161,15 @@ module _ (first before now : Past) (node : Node) (live : Live) (machine : Machin
     put_during moments = during_is first before now machine (row ∷ []) (all_of machine ++ row ∷ []) (durable_of machine) is_begun put_rows refl moments
 
     pub put_done : (new_live : Live) → LiveShows new_live now (all_of machine ++ row ∷ []) (durable_of machine)
-        → Moments (Crashes (IsFront (all_of machine ++ row ∷ []) (durable_of machine))) before now
+        → Moments (Crashes (IsFront (all_of machine ++ row ∷ []) (durable_of machine))) before now → Sounds before now
         → Steps first machine (put row) done (record { state = Up new_live; base = node.base; entries = node.entries + 1; durable = node.durable }) before now
-    put_done new_live shows moments = record {
+    put_done new_live shows moments sounds = record {
       new = after_put;
       change = (is_running, refl);
       shows = up_shown first now new_live node.base (node.entries + 1) node.durable after_put is_running is_begun is_sure (base_kept node.base machine after_put is_begun refl refl refl h.base)
           (ap (λ n. n + 1) h.entries ∙ sym one_more) h.durable (omega (arith, within, one_more)) (subst (λ (rows : List Tree). LiveShows new_live now rows (durable_of machine)) put_rows shows);
       during = put_during moments;
+      sound = λ sound. sounds;
     }
 
     -- what a write that failed left
@@ -168,6 +180,7 @@ module _ (first before now : Past) (node : Node) (live : Live) (machine : Machin
       pub kept : error ≡ Memory → LiveShows new_live now (all_of machine) (durable_of machine)
       pub left : Stands (reads now) (all_of machine) ⊎ Stands (reads now) (all_of machine ++ row ∷ [])
       pub moments : Moments (Crashes (IsFront (all_of machine ++ row ∷ []) (durable_of machine))) before now
+      pub sounds : Sounds before now
       pub old : error ≡ Memory → Moments (Crashes (IsFront (all_of machine) (durable_of machine))) before now
 
     abbrev in_doubt : Machine
@@ -182,9 +195,9 @@ module _ (first before now : Past) (node : Node) (live : Live) (machine : Machin
     doubt_held (inl stands) = holds_kept (reads now) in_doubt machine.entries is_whole (inr (refl, row, refl)) stands
     doubt_held (inr stands) = holds_kept (reads now) in_doubt (machine.entries ++ row ∷ []) is_whole (inl refl) (subst (λ (rows : List Tree). Stands (reads now) rows) put_rows stands)
 
-    doubt_shown : Stands (reads now) (all_of machine) ⊎ Stands (reads now) (all_of machine ++ row ∷ []) → Moments (Crashes (IsFront (all_of machine ++ row ∷ []) (durable_of machine))) before now
+    doubt_shown : Stands (reads now) (all_of machine) ⊎ Stands (reads now) (all_of machine ++ row ∷ []) → Moments (Crashes (IsFront (all_of machine ++ row ∷ []) (durable_of machine))) before now → Sounds before now
         → Shows first (record { state = Faulted; base = node.base; entries = node.entries + 1; durable = node.durable }) now in_doubt
-    doubt_shown left moments = record {
+    doubt_shown left moments sounds = record {
       life = refl;
       base = base_kept node.base machine in_doubt is_begun refl refl refl h.base;
       entries = ap (λ n. n + 1) h.entries ∙ sym one_more;
@@ -195,6 +208,7 @@ module _ (first before now : Past) (node : Node) (live : Live) (machine : Machin
       untouched = λ at damage. no_place machine.damage (now ≡ first) at is_whole damage;
       leaves = λ image is. front_is first in_doubt [] (all_of machine ++ row ∷ []) (durable_of machine) image is_begun (put_rows ∙ no_more in_doubt) refl
           (at_end (Crashes (IsFront (all_of machine ++ row ∷ []) (durable_of machine))) before now moments image is);
+      sound = λ whole. at_end (λ past. IsSound past latest) before now sounds;
     }
 
     pub put_failed : (error : LogErr) (answer : Answer) (new_live : Live) (new : Node) → answer ≡ failed_answer error → OnlyFileOrMemory {T = Unit {0}} (Err error) → Unwritten error new_live new
@@ -203,8 +217,9 @@ module _ (first before now : Past) (node : Node) (live : Live) (machine : Machin
         steps_at first before now machine (put row) answer (fault name) new (record { state = Faulted; base = node.base; entries = node.entries + 1; durable = node.durable }) answer_is (f.file name refl) (record {
           new = in_doubt;
           change = (is_running, f.named name refl, refl);
-          shows = doubt_shown f.left f.moments;
+          shows = doubt_shown f.left f.moments f.sounds;
           during = put_during f.moments;
+          sound = λ sound. f.sounds;
         })
     put_failed Memory answer new_live new answer_is only f =
         steps_at first before now machine (put row) answer no_memory new (record { state = Up new_live; base = node.base; entries = node.entries; durable = node.durable }) answer_is (f.memory refl) (record {
@@ -212,15 +227,16 @@ module _ (first before now : Past) (node : Node) (live : Live) (machine : Machin
           change = (is_running, refl);
           shows = kept_shown new_live (f.kept refl);
           during = no_more_during (f.old refl);
+          sound = λ sound. f.sounds;
         })
     put_failed (Bad name at) answer new_live new answer_is only f = absurd only
     put_failed TooLong answer new_live new answer_is only f = absurd only
 
   -- ---- a sync
 
-  pub sync_done : (new_live : Live) → LiveShows new_live now (all_of machine) (length (all_of machine)) → Moments (Crashes (IsFront (all_of machine) (durable_of machine))) before now
+  pub sync_done : (new_live : Live) → LiveShows new_live now (all_of machine) (length (all_of machine)) → Moments (Crashes (IsFront (all_of machine) (durable_of machine))) before now → Sounds before now
       → Steps first machine sync_log synced (record { state = Up new_live; base = node.base; entries = node.entries; durable = node.entries }) before now
-  sync_done new_live shows moments =
+  sync_done new_live shows moments sounds =
       let new : Machine = all_durable machine in
       record {
         new = new;
@@ -228,18 +244,20 @@ module _ (first before now : Past) (node : Node) (live : Live) (machine : Machin
         shows = up_shown first now new_live node.base node.entries node.entries new is_running is_begun is_sure (base_kept node.base machine new is_begun refl refl refl h.base) h.entries h.entries (omega arith)
             (subst (λ n. LiveShows new_live now (all_of machine) n) rows_many shows);
         during = no_more_during moments;
+        sound = λ sound. sounds;
       }
 
   pub sync_failed : (error : LogErr) (answer : Answer) (new : Node) → answer ≡ failed_answer error → OnlyFile {T = Unit {0}} (Err error)
       → ((name : List ℕ) → error ≡ File name → new ≡ record { state = Faulted; base = node.base; entries = node.entries; durable = node.durable }) → ((name : List ℕ) → error ≡ File name → name ≡ latest)
-      → Stands (reads now) (all_of machine) → Moments (Crashes (IsFront (all_of machine) (durable_of machine))) before now → Steps first machine sync_log answer new before now
-  sync_failed (File name) answer new answer_is only file named left moments =
+      → Stands (reads now) (all_of machine) → Moments (Crashes (IsFront (all_of machine) (durable_of machine))) before now → Sounds before now → Steps first machine sync_log answer new before now
+  sync_failed (File name) answer new answer_is only file named left moments sounds =
       steps_at first before now machine sync_log answer (fault name) new (record { state = Faulted; base = node.base; entries = node.entries; durable = node.durable }) answer_is (file name refl) (record {
         new = with_life faulted machine;
         change = (is_running, named name refl, refl);
-        shows = faulted_shown left (no_more_during moments);
+        shows = faulted_shown left (no_more_during moments) sounds;
         during = no_more_during moments;
+        sound = λ sound. sounds;
       })
-  sync_failed Memory answer new answer_is only file named left moments = absurd only
-  sync_failed (Bad name at) answer new answer_is only file named left moments = absurd only
-  sync_failed TooLong answer new answer_is only file named left moments = absurd only
+  sync_failed Memory answer new answer_is only file named left moments sounds = absurd only
+  sync_failed (Bad name at) answer new answer_is only file named left moments sounds = absurd only
+  sync_failed TooLong answer new answer_is only file named left moments sounds = absurd only

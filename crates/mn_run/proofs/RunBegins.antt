@@ -3,10 +3,11 @@ use Rattle.std.proofs.Common.{◌≡◌, ℕ, true, List, [], ◌++◌, Option, 
 use Rattle.std.proofs.lemmas.List.Elements.{All-nil}
 use Rattle.term_core.specs.Tree.{Tree}
 use Rattle.file_trait.specs.DiskModel.{Past, reads}
+use Rattle.disk_logs.specs.Crash.{IsSound}
 use Rattle.log_items.specs.Items.{log_bytes}
 use Rattle.log_items.proofs.Unique.{written}
 use Rattle.mn_run.specs.Commits.{IsRow, AreRows}
-use Rattle.mn_run.specs.Files.{Files, Stands, NoMeaning, Means, HoldsAt, HoldsClosed}
+use Rattle.mn_run.specs.Files.{Files, latest, Stands, NoMeaning, Means, HoldsAt, HoldsClosed}
 use Rattle.mn_run.specs.Machine.{Machine, Meaning, writes, broken, before, all_of, halted}
 use Rattle.mn_run.specs.Shown.{Shows, ShowsLife}
 use Rattle.mn_run.specs.declared.node.Node.{Node}
@@ -22,8 +23,8 @@ abbrev pub new_node : Node
 new_node = record { state = Unstarted; base = None; entries = 0; durable = 0 }
 
 -- a node that was not started stands for the machine of the directory's meaning
-pub shows_first : (first : Past) (meaning : Meaning) → Means (reads first) meaning → Shows first new_node first (before meaning)
-shows_first first (writes base) stands = record {
+pub shows_first : (first : Past) (meaning : Meaning) → Means (reads first) meaning → ((before meaning).damage ≡ None → IsSound first latest) → Shows first new_node first (before meaning)
+shows_first first (writes base) stands sound = record {
   life = refl;
   base = (refl, refl);
   entries = refl;
@@ -33,8 +34,9 @@ shows_first first (writes base) stands = record {
   held = ([], inl refl, subst (Stands (reads first)) (sym (append-nil base)) stands);
   untouched = λ at there. refl;
   leaves = λ image is. inl (image, is, refl);
+  sound = sound;
 }
-shows_first first (broken at) none = record {
+shows_first first (broken at) none sound = record {
   life = refl;
   base = (refl, refl);
   entries = refl;
@@ -44,6 +46,7 @@ shows_first first (broken at) none = record {
   held = none;
   untouched = λ place there. refl;
   leaves = λ image is. inl (image, is, refl);
+  sound = sound;
 }
 
 -- a machine that was halted is shown by a closed log
@@ -73,5 +76,5 @@ module _ (first : Past) (node : Node) (past : Past) (machine : Machine) (shown :
       by None (kept, among, stands) = absurd (exclusive (reads past) (machine.base ++ kept) at stands none)
       by (Some other) there = ap Some (one_meaning (reads past) other at there none)
 
-pub shows_new : (first : Past) (meaning : Meaning) (node : Node) → node ≡ new_node → Means (reads first) meaning → Shows first node first (before meaning)
-shows_new first meaning node is means = subst (λ (n : Node). Shows first n first (before meaning)) (sym is) (shows_first first meaning means)
+pub shows_new : (first : Past) (meaning : Meaning) (node : Node) → node ≡ new_node → Means (reads first) meaning → ((before meaning).damage ≡ None → IsSound first latest) → Shows first node first (before meaning)
+shows_new first meaning node is means sound = subst (λ (n : Node). Shows first n first (before meaning)) (sym is) (shows_first first meaning means sound)

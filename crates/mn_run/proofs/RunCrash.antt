@@ -4,8 +4,10 @@ use Rattle.std.specs.Bool.{MatchBool}
 use Rattle.std.proofs.lemmas.Bool.{cases_lt, le-leb, lt-leb}
 use Rattle.file_trait.specs.DiskModel.{Past, DiskOp, clock, doing, Crashes}
 use Rattle.file_trait.specs.Moments.{EachMoment, Moments}
-use Rattle.file_trait.proofs.Moments.{then_done, none_done, weaker, weaker_within, same_moment, since}
+use Rattle.file_trait.proofs.Moments.{at_end, then_done, none_done, weaker, weaker_within, same_moment, since}
+use Rattle.disk_logs.specs.Crash.{IsSound}
 use Rattle.mn_run.specs.Crash.{Leaves}
+use Rattle.mn_run.specs.Files.{latest}
 use Rattle.mn_run.specs.Machine.{added}
 use Rattle.mn_run.specs.Runs.{World, Event, Follows, IsRun, last_of, CrashLeaves}
 
@@ -48,3 +50,11 @@ at_moments first old (event ∷ events) run h =
     (during first old event events (each_first (LeavesNow first event.after events) later.ops event.after.past later.each) run.0)
     (weaker (λ (past : Past). LeavesNow first event.after events past × (clock event.after.past ≤ clock past)) (LeavesNow first old (event ∷ events)) event.after.past (last_of event.after events).past
     (λ past g. behind first old event events past g.1 g.0) (since (LeavesNow first event.after events) event.after.past (last_of event.after events).past later))
+
+-- a closed log may be trusted at each moment
+pub sound_moments : (first : Past) (old : World) (events : List Event) → IsRun first old events → IsSound old.past latest → Moments (λ past. IsSound past latest) old.past (last_of old events).past
+sound_moments first old [] run sound = none_done (λ past. IsSound past latest) old.past old.past refl sound
+sound_moments first old (event ∷ events) run sound =
+    let during = run.0.sound sound in
+    then_done (λ past. IsSound past latest) old.past event.after.past (last_of event.after events).past during
+    (sound_moments first event.after events run.1 (at_end (λ past. IsSound past latest) old.past event.after.past during))

@@ -1,8 +1,9 @@
 -- How a run ends over a directory without a meaning.
-use Rattle.std.proofs.Common.{◌≡◌, ◌⊎◌, ℕ, ◌≤◌, List, Some, Option, refl, sym, ap, ◌∙◌, subst, inl, inr, arith}
+use Rattle.std.proofs.Common.{◌≡◌, ◌⊎◌, ℕ, ◌≤◌, List, None, Some, Option, refl, sym, ap, ◌∙◌, subst, inl, inr, arith}
 use Rattle.term_core.specs.Tree.{Tree}
 use Rattle.file_trait.specs.Counts.{Rose}
 use Rattle.file_trait.specs.DiskModel.{Past, reads}
+use Rattle.disk_logs.specs.Crash.{IsSound}
 use Rattle.mn_run.specs.Files.{latest, NoMeaning, Means, Stands}
 use Rattle.mn_run.specs.Machine.{Machine, Meaning, writes, broken, before}
 use Rattle.mn_run.specs.Orders.{Order, Answer}
@@ -80,22 +81,26 @@ over_end first damage old past was faults done end node now faults_now old_marks
 
 -- ---- the whole run
 
-module _ (first : Past) (end : Status) (now : Past) (over : (meaning : Meaning) → Means (reads first) meaning → EndsOver first (before meaning).damage end now) where
-  pub run_damaged : (name : List ℕ) (at : ℕ) → end ≡ status.Damaged name at → (name ≡ latest) × NoMeaning (reads first) at
-  run_damaged name at is = elim (stands_or_not (reads first)) [
-    | inl (base, stands) ↦ let h = (over (writes base) stands).damaged name at is in absurd (cc h.1)
-    | inr (place, none) ↦ let h = (over (broken place) none).damaged name at is in (h.0, subst (NoMeaning (reads first)) (one_some place at h.1) none)
+module _ (first : Past) (end : Status) (now : Past) (over : (meaning : Meaning) → Means (reads first) meaning → ((before meaning).damage ≡ None → IsSound first latest) → EndsOver first (before meaning).damage end now) where
+  pub run_damaged : IsSound first latest → (name : List ℕ) (at : ℕ) → end ≡ status.Damaged name at → (name ≡ latest) × NoMeaning (reads first) at
+  run_damaged sound name at is = elim (stands_or_not (reads first)) [
+    | inl (base, stands) ↦ let h = (over (writes base) stands (λ whole. sound)).damaged name at is in absurd (cc h.1)
+    | inr (place, none) ↦ let h = (over (broken place) none (λ whole. sound)).damaged name at is in (h.0, subst (NoMeaning (reads first)) (one_some place at h.1) none)
   ]
 
+  -- nothing is asked of such a directory
+  unasked : (at : ℕ) → Some at ≡ None → IsSound first latest
+  unasked at is = absurd (cc is)
+
   pub run_meaning : (at : ℕ) → NoMeaning (reads first) at → EndsDamaged at end
-  run_meaning at none = (over (broken at) none).meaning at refl
+  run_meaning at none = (over (broken at) none (unasked at)).meaning at refl
 
   pub run_kept : (at : ℕ) → NoMeaning (reads first) at → now ≡ first
-  run_kept at none = (over (broken at) none).kept at refl
+  run_kept at none = (over (broken at) none (unasked at)).kept at refl
 
   -- damage is none where the directory has a meaning
-  pub not_damaged : (base : List Tree) → Stands (reads first) base → (name : List ℕ) (at : ℕ) → end ≡ status.Damaged name at → ⊥
-  not_damaged base stands name at is = exclusive (reads first) base at stands (run_damaged name at is).1
+  pub not_damaged : IsSound first latest → (base : List Tree) → Stands (reads first) base → (name : List ℕ) (at : ℕ) → end ≡ status.Damaged name at → ⊥
+  not_damaged sound base stands name at is = exclusive (reads first) base at stands (run_damaged sound name at is).1
 
 -- nothing was wrong
 pub all_done : (script : List ℕ) (end : Status) (old : World) (now : Past) (faults : ℕ) (old_out new_out : List ℕ) (marks : List Mark) → Ran script end old now faults old_out new_out marks

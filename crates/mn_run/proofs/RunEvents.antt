@@ -4,7 +4,7 @@ use Rattle.std.proofs.lemmas.List.{flat_map_more, map-append}
 use Rattle.file_trait.specs.Counts.{Rose}
 use Rattle.file_trait.specs.DiskModel.{Past, Crashes}
 use Rattle.file_trait.specs.Moments.{Moments}
-use Rattle.mn_run.specs.Crash.{Leaves}
+use Rattle.mn_run.specs.Crash.{Leaves, StaysSound}
 use Rattle.mn_run.specs.Machine.{Machine, Change, added}
 use Rattle.mn_run.specs.Orders.{Order, Answer}
 use Rattle.mn_run.specs.Orders as orders
@@ -24,10 +24,10 @@ abbrev pub event : Order → Answer → World → Event
 event order answer after = record { order = order; answer = answer; after = after }
 
 pub follows : (first : Past) (machine : Machine) (before : Past) (faults : ℕ) (order : Order) (answer : Answer) (new : Machine) (node : Node) (now : Past) (faults_now : ℕ)
-    → Change machine order answer new → Shows first node now new → Moments (Crashes (Leaves first machine (added order answer))) before now → faults ≤ faults_now
+    → Change machine order answer new → Shows first node now new → Moments (Crashes (Leaves first machine (added order answer))) before now → StaysSound before now → faults ≤ faults_now
     → ((name : List ℕ) → answer ≡ orders.fault name → Rose faults faults_now) → Follows first (world machine before faults) (event order answer (world new now faults_now))
-follows first machine before faults order answer new node now faults_now change shows during later rose =
-    record { change = change; during = during; behind = shows.leaves; later = later; rose = rose }
+follows first machine before faults order answer new node now faults_now change shows during stays later rose =
+    record { change = change; during = during; behind = shows.leaves; sound = stays; later = later; rose = rose }
 
 -- a world by its parts
 pub world_is : (w : World) (past : Past) (faults : ℕ) → w.past ≡ past → w.faults ≡ faults → world w.machine past faults ≡ w

@@ -1,6 +1,8 @@
 -- How the loop of a run begins, goes on and ends.
 use Rattle.std.proofs.Common.{◌≡◌, ℕ, ◌+◌, ◌≤◌, List, [], ◌∷◌, ◌++◌, length, None, Result, Ok, Err, refl, sym, ap, ◌∙◌, subst, inl, inr, append_assoc, append-nil, arith}
 use Rattle.file_trait.specs.DiskModel.{reads}
+use Rattle.disk_logs.specs.Crash.{IsSound}
+use Rattle.mn_run.specs.Files.{latest}
 use Rattle.mn_run.specs.Lines.{lines_of}
 use Rattle.mn_run.specs.Machine.{Machine, Change, halted, faulted}
 use Rattle.mn_run.specs.Orders.{Answer}
@@ -48,6 +50,9 @@ is_end asked plan later is h = subst (λ a. Asks (Ok a) plan later) is h
 pub goes_do : (asked : Ask) (command : Command) (before now done done_now : ℕ) → asked ≡ ask.Do command → Goes asked before now done done_now → done_now ≡ done + 1
 goes_do asked command before now done done_now is h = (subst (λ a. Goes a before now done done_now) is h).1
 
+pub goes_blank : (asked : Ask) (before now done done_now : ℕ) → asked ≡ ask.Blank → Goes asked before now done done_now → done_now ≡ done
+goes_blank asked before now done done_now is h = (subst (λ a. Goes a before now done done_now) is h).1
+
 pub goes_end : (asked : Ask) (before now done done_now : ℕ) → asked ≡ ask.End → Goes asked before now done done_now → done_now ≡ done
 goes_end asked before now done done_now is h = (subst (λ a. Goes a before now done done_now) is h).1
 
@@ -58,11 +63,12 @@ module _ (script : List ℕ) (old : World) (first : List ℕ) where
   abbrev pub unstarted : Node → List Mark → Point
   unstarted node marks = record { node = node; past = old.past; faults = old.faults; out = first; marks = marks }
 
-  pub nothing : (node : Node) (marks : List Mark) → Shows old.past node old.past old.machine → marks ≡ [] → Front script old first (unstarted node marks)
-  nothing node marks shows none = record {
+  pub nothing : (node : Node) (marks : List Mark) → Shows old.past node old.past old.machine → IsSound old.past latest → marks ≡ [] → Front script old first (unstarted node marks)
+  nothing node marks shows sound none = record {
     events = [];
     run = tt;
     leaves = shows.leaves;
+    sound = sound;
     printed = sym (append-nil first);
     marked = sym none;
     past = refl;
@@ -73,16 +79,17 @@ module _ (script : List ℕ) (old : World) (first : List ℕ) where
   abbrev pub StartedFrom : Node → List Mark → Result Unit Status → Point → Type 0
   StartedFrom node marks result new = Served old.past old orders.start 0 result new.node new.past new.faults first new.out marks new.marks
 
-  pub began : (node : Node) (marks : List Mark) (new : Point) → Shows old.past node old.past old.machine → marks ≡ [] → StartedFrom node marks (Ok tt) new → Began old new.node new.past new.faults first new.out new.marks
-  began node marks new shows none h =
-      let f = nothing node marks shows none in
+  pub began : (node : Node) (marks : List Mark) (new : Point) → Shows old.past node old.past old.machine → IsSound old.past latest → marks ≡ [] → StartedFrom node marks (Ok tt) new → Began old new.node new.past new.faults first new.out new.marks
+  began node marks new shows sound none h =
+      let f = nothing node marks shows sound none in
       let now = unstarted node marks in
       let e = event orders.start h.answer (world h.new new.past new.faults) in
       record {
         event = e;
         order = refl;
-        follows = follows old.past old.machine old.past old.faults orders.start h.answer h.new new.node new.past new.faults h.change h.shows h.during h.later h.rose;
+        follows = follows old.past old.machine old.past old.faults orders.start h.answer h.new new.node new.past new.faults h.change h.shows h.during h.sound h.later h.rose;
         leaves = shows.leaves;
+        sound = sound;
         past = refl;
         faults = refl;
         shows = h.shows;
@@ -93,11 +100,11 @@ module _ (script : List ℕ) (old : World) (first : List ℕ) where
       well : ((name : List ℕ) (at : ℕ) → h.answer ≡ orders.damaged name at → (◌≡◌ {A = Result Unit Status} (Ok tt) (Err (status.Damaged name at))) × (new.out ≡ first)) → (name : List ℕ) (at : ℕ) → h.answer ≡ orders.damaged name at → ⊥
       well sound name at is = let other = (sound name at is).0 in cc other
 
-  pub start_ends : (node : Node) (marks : List Mark) (new : Point) (end : Status) → Shows old.past node old.past old.machine → marks ≡ [] → StartedFrom node marks (Err end) new → IsOfAnswering end
+  pub start_ends : (node : Node) (marks : List Mark) (new : Point) (end : Status) → Shows old.past node old.past old.machine → IsSound old.past latest → marks ≡ [] → StartedFrom node marks (Err end) new → IsOfAnswering end
       → Ran script end old new.past new.faults first new.out new.marks
   unfolding nothing
-  start_ends node marks new end shows none h only =
-      serve_ends script old first (unstarted node marks) new (nothing node marks shows none) command.Start 0 ((plan_of script).commands ++ at_end (plan_of script).over) end refl refl h only
+  start_ends node marks new end shows sound none h only =
+      serve_ends script old first (unstarted node marks) new (nothing node marks shows sound none) command.Start 0 ((plan_of script).commands ++ at_end (plan_of script).over) end refl refl h only
 
   -- ---- the loop
 
@@ -107,6 +114,7 @@ module _ (script : List ℕ) (old : World) (first : List ℕ) where
       events = h.event ∷ [];
       run = (h.follows, tt);
       leaves = h.leaves;
+      sound = h.sound;
       printed = h.grown ∙ ap (λ xs. first ++ xs) (sym (append-nil (line_of h.event.order h.event.answer)));
       marked = append-nil (mark_at 0 h.event) ∙ sym h.marked;
       past = h.past;
@@ -159,7 +167,7 @@ module _ (script : List ℕ) (old : World) (first : List ℕ) where
         let e = event orders.end h.answer (world h.new new.past new.faults) in
         let count : done_with f.events orders.end ≡ done = omega (arith, s.counted orders.end) in
         ended_at script old first now new f e [] end [] [] taken unmarked
-        (follows old.past (last_of old f.events).machine now.past now.faults orders.end h.answer h.new new.node new.past new.faults h.change h.shows h.during h.later h.rose) h.shows refl refl
+        (follows old.past (last_of old f.events).machine now.past now.faults orders.end h.answer h.new new.node new.past new.faults h.change h.shows h.during h.sound h.later h.rose) h.shows refl refl
         (planned script old first plan f.events s.commands s.orders s.read ∙ ap (λ (p : Plan). orders_of f.events ++ (p.commands ++ at_end p.over)) is)
         refl (same ∙ sym (append-nil now.out)) (ap (λ n. mark_at n e) count ∙ mark) marks few ends
 

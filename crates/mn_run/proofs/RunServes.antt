@@ -48,6 +48,7 @@ module _ (first : Past) (machine : Machine) (past : Past) (faults : ℕ) (node :
     change = s.change;
     shows = s.shows;
     during = s.during;
+    sound = s.sound;
     later = later;
     rose = rose;
     told = subst (λ (m : Mark). Told answer m result old_out new_out old_marks new_marks) (mark_is first done node now faults_now s.new moment mark s.shows at is) told;
@@ -67,6 +68,7 @@ module _ (first : Past) (machine : Machine) (past : Past) (faults : ℕ) (node :
     change = s.change;
     shows = s.shows;
     during = s.during;
+    sound = s.sound;
     later = later;
     rose = rose;
     how = how;

@@ -3,8 +3,9 @@ use Rattle.std.proofs.Common.{◌≡◌, ℕ, ◌+◌, ◌≤◌, List, [], ◌�
 use Rattle.std.proofs.lemmas.List.{take-append-drop}
 use Rattle.file_trait.specs.DiskModel.{Past, reads, Crashes}
 use Rattle.file_trait.specs.Moments.{Moments}
+use Rattle.disk_logs.specs.Crash.{IsSound}
 use Rattle.mn_run.specs.Crash.{Leaves}
-use Rattle.mn_run.specs.Files.{Files, Holds}
+use Rattle.mn_run.specs.Files.{Files, latest, Holds}
 use Rattle.mn_run.specs.Machine.{Machine, Change}
 use Rattle.mn_run.specs.Orders.{Order, Answer}
 use Rattle.mn_run.specs.Orders as orders
@@ -19,7 +20,7 @@ use Rattle.mn_run.specs.declared.outcome.Mark.{Mark}
 use Rattle.mn_run.specs.declared.outcome.Status.{Status}
 use Rattle.mn_run.specs.declared.outcome.Status.TheVariants as status
 use Rattle.mn_run.proofs.RunChanges.{found_damage}
-use Rattle.mn_run.proofs.RunCrash.{LeavesNow, at_moments}
+use Rattle.mn_run.proofs.RunCrash.{LeavesNow, at_moments, sound_moments}
 use Rattle.mn_run.proofs.RunEvents.{world, event, follows, world_is, run_more, last_more, orders_more, lines_more, done_with, marks_more, mark_few, prints, no_mark, one_mark}
 
 -- what the node, the disk, the sink and the marks are at one point of the run
@@ -35,6 +36,7 @@ module _ (script : List ℕ) (old : World) (first : List ℕ) where
     pub events : List Event
     pub run : IsRun old.past old events
     pub leaves : Crashes (Leaves old.past old.machine []) old.past
+    pub sound : IsSound old.past latest
     pub printed : now.out ≡ first ++ lines_of_events events
     pub marked : marks_of events ≡ now.marks
     pub past : (last_of old events).past ≡ now.past
@@ -70,6 +72,7 @@ module _ (script : List ℕ) (old : World) (first : List ℕ) where
     events = f.events ++ e ∷ [];
     run = run_more old.past old f.events e f.run (follows_here now f e step);
     leaves = f.leaves;
+    sound = f.sound;
     printed = print_all f.events e now.out new.out f.printed out;
     marked = marks_more f.events e ∙ ap (λ xs. xs ++ mark_at (done_with f.events e.order) e) f.marked ∙ sym marks;
     past = ap (λ (w : World). w.past) (last_more old f.events e) ∙ past;
@@ -107,6 +110,7 @@ module _ (script : List ℕ) (old : World) (first : List ℕ) where
         faults = ap (λ (w : World). w.faults) last ∙ faults;
         held = subst (λ (w : World). Holds (reads new.past) w.machine) (sym last) shows.held;
         crash = subst (λ (p : Past). Moments (LeavesNow old.past old (f.events ++ e ∷ [])) old.past p) at (at_moments old.past old (f.events ++ e ∷ []) run f.leaves);
+        sound = subst (λ (p : Past). Moments (λ past. IsSound past latest) old.past p) at (sound_moments old.past old (f.events ++ e ∷ []) run f.sound);
         ends = subst (λ (w : World). Ends end later (plan_of script).over rest unmarked (reads new.past) w.machine) (sym last) ends;
       }
 
@@ -129,7 +133,7 @@ module _ (script : List ℕ) (old : World) (first : List ℕ) where
     answered = event (order command) h.answer (world h.new new.past new.faults)
 
     pub answered_follows : Follows old.past (here now f) answered
-    answered_follows = follows old.past (last_of old f.events).machine now.past now.faults (order command) h.answer h.new new.node new.past new.faults h.change h.shows h.during h.later h.rose
+    answered_follows = follows old.past (last_of old f.events).machine now.past now.faults (order command) h.answer h.new new.node new.past new.faults h.change h.shows h.during h.sound h.later h.rose
 
   -- damage ends the run
   pub not_damaged : (now new : Point) (f : Front now) (command : Command) (done : ℕ) (h : ServedFrom now f command done (Ok tt) new) (name : List ℕ) (at : ℕ) → h.answer ≡ orders.damaged name at → ⊥
@@ -205,5 +209,6 @@ module _ (script : List ℕ) (old : World) (first : List ℕ) where
         faults = f.faults;
         held = f.shows.held;
         crash = subst (λ (p : Past). Moments (LeavesNow old.past old f.events) old.past p) f.past (at_moments old.past old f.events f.run f.leaves);
+        sound = subst (λ (p : Past). Moments (λ past. IsSound past latest) old.past p) f.past (sound_moments old.past old f.events f.run f.sound);
         ends = read_end plan later s.commands end (reads now.past) (last_of old f.events).machine s.read asks only;
       }

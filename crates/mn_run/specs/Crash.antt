@@ -2,6 +2,8 @@
 use Rattle.std.specs.Prelude.{◌≡◌, ◌⊎◌, ℕ, ◌+◌, ◌≤◌, Bool, true, false, List, ◌++◌, length, take}
 use Rattle.term_core.specs.Tree.{Tree}
 use Rattle.file_trait.specs.DiskModel.{Past, IsImage}
+use Rattle.file_trait.specs.Moments.{Moments}
+use Rattle.disk_logs.specs.Crash.{IsSound}
 use Rattle.mn_run.specs.Files.{Files, latest, Stands}
 use Rattle.mn_run.specs.Machine.{Machine}
 
@@ -22,3 +24,7 @@ LeavesAs false first base entries durable files = IsOldOr first base files
 -- writes, with all before the last start and all that are known to be durable.
 abbrev pub Leaves : Past → Machine → List Tree → Files → Type 0
 Leaves first machine more files = LeavesAs machine.begun first machine.base (machine.entries ++ more) machine.durable files
+
+-- where a closed log could be trusted before, it can be at each moment from then to now
+abbrev pub StaysSound : Past → Past → Type 0
+StaysSound before now = IsSound before latest → Moments (λ past. IsSound past latest) before now

@@ -22,8 +22,8 @@ IsLogOf closed rows file = (items : List (List ℕ)) × AreItemsOf rows items ×
 abbrev pub HasWrites : List Tree → Option (List ℕ) → Type 0
 HasWrites rows file = (bytes : List ℕ) × (items : List (List ℕ)) × (file ≡ Some bytes) × AreItemsOf rows items × HasItems bytes items
 
--- A directory without a log stands for no writes, and one with a log for those that it has, whether it is closed or open. An
--- incomplete item at an open log's end is no write.
+-- A directory without a log stands for no writes, and one with a log for those that it has, whether it is closed or open. Of an
+-- open log these are its longest run of whole items: what stands behind that is no write.
 abbrev pub Stands : Files → List Tree → Type 0
 Stands files base = ((files latest ≡ None) × (base ≡ [])) ⊎ (HasWrites base (files latest) × AreRows base)
 

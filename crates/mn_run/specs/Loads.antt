@@ -1,8 +1,7 @@
 -- How a log makes a table.
-use Rattle.std.specs.Prelude.{◌≡◌, ◌⊎◌, ℕ, ◌≤◌, List, [], Contains, Option, Some, Result, IsErrOf}
+use Rattle.std.specs.Prelude.{◌≡◌, ◌⊎◌, ℕ, ◌≤◌, List, [], Contains, Result, IsErrOf}
 use Rattle.term_core.specs.Tree.{Tree}
 use Rattle.file_trait.specs.Counts.{Rose}
-use Rattle.log_items.specs.Items.{HasItems}
 use Rattle.disk_logs.specs.declared.error.LogErr.{LogErr}
 use Rattle.disk_logs.specs.declared.error.LogErr.TheVariants.{File, Bad, TooLong, Memory}
 use Rattle.txn_log.specs.Logs.{IsLogName}
@@ -11,10 +10,6 @@ use Rattle.mn_run.specs.Files.{Files, latest, Stands}
 use Rattle.mn_run.specs.Tables.{records_of, written}
 use Rattle.mn_run.specs.declared.starting.StartErr.{StartErr}
 use Rattle.mn_run.specs.declared.starting.StartErr.TheVariants as start
-
--- the file is there, and is one of items
-abbrev pub IsLogFile : Option (List ℕ) → Type 0
-IsLogFile file = (bytes : List ℕ) × (items : List (List ℕ)) × (file ≡ Some bytes) × HasItems bytes items
 
 -- the items are a log's, and a table that its writes make has these records, in some order
 pub record MakesTable (items : List (List ℕ)) (table : List Tree) : Type 0 where

@@ -6,7 +6,8 @@ use Rattle.file_trait.specs.Counts.{Rose}
 use Rattle.file_trait.specs.Streams.{TookSome}
 use Rattle.file_trait.specs.DiskModel.{Past, clock, reads, Crashes}
 use Rattle.file_trait.specs.Moments.{Moments}
-use Rattle.mn_run.specs.Crash.{Leaves}
+use Rattle.disk_logs.specs.Crash.{IsSound}
+use Rattle.mn_run.specs.Crash.{Leaves, StaysSound}
 use Rattle.mn_run.specs.Files.{Files, latest, Holds, HoldsClosed}
 use Rattle.mn_run.specs.Machine.{Machine, Meaning, before, Change, added, halted, faulted}
 use Rattle.mn_run.specs.Orders.{Order, Answer}
@@ -37,11 +38,13 @@ pub record Event : Type 0 where
   pub after : World
 
 -- The event is a step of the machine. At each moment of it a crash leaves what is said of the machine before it and the entries that
--- it adds, and behind it what is said of the machine then. A fault is answered only where the disk's count rose.
+-- it adds, and behind it what is said of the machine then, and a closed log may be trusted as before. A fault is answered only where
+-- the disk's count rose.
 pub record Follows (first : Past) (old : World) (event : Event) : Type 0 where
   pub change : Change old.machine event.order event.answer event.after.machine
   pub during : Moments (Crashes (Leaves first old.machine (added event.order event.answer))) old.past event.after.past
   pub behind : Crashes (Leaves first event.after.machine []) event.after.past
+  pub sound : StaysSound old.past event.after.past
   pub later : old.faults ≤ event.after.faults
   pub rose : (name : List ℕ) → event.answer ≡ orders.fault name → Rose old.faults event.after.faults
 
@@ -186,6 +189,7 @@ pub record Served (first : Past) (old : World) (order : Order) (done : ℕ) (res
   pub change : Change old.machine order answer new
   pub shows : Shows first node now new
   pub during : Moments (Crashes (Leaves first old.machine (added order answer))) old.past now
+  pub sound : StaysSound old.past now
   pub later : old.faults ≤ faults_now
   pub rose : (name : List ℕ) → answer ≡ orders.fault name → Rose old.faults faults_now
   pub told : Told answer (mark_of done (record { machine = new; past = now; faults = faults_now })) result old_out new_out old_marks new_marks
@@ -205,6 +209,7 @@ pub record Ended (first : Past) (old : World) (done : ℕ) (end : Status) (node 
   pub change : Change old.machine orders.end answer new
   pub shows : Shows first node now new
   pub during : Moments (Crashes (Leaves first old.machine [])) old.past now
+  pub sound : StaysSound old.past now
   pub later : old.faults ≤ faults_now
   pub rose : (name : List ℕ) → answer ≡ orders.fault name → Rose old.faults faults_now
   pub how : EndsAs answer new end
@@ -225,7 +230,8 @@ Ends status.Usage later over unprinted unmarked files last = ⊥
 
 -- There is one run of the machine, over a start, the commands of the script's lines and the script's end, or the first of these,
 -- whose replies were printed and whose marks were taken, or a front of them. The directory holds the run's writes, and at each
--- moment a crash leaves a front of them with all that the last mark before that moment counts as durable.
+-- moment a crash leaves a front of them with all that the last mark before that moment counts as durable, and a closed log may be
+-- trusted: so a later run finds the directory as `run` asks, also where this one was killed at some moment.
 pub record Ran (script : List ℕ) (status : Status) (old : World) (now : Past) (faults_now : ℕ) (old_out new_out : List ℕ) (marks : List Mark) : Type 0 where
   pub events : List Event
   pub later : List Order
@@ -242,6 +248,7 @@ pub record Ran (script : List ℕ) (status : Status) (old : World) (now : Past) 
   pub faults : (last_of old events).faults ≡ faults_now
   pub held : Holds (reads now) (last_of old events).machine
   pub crash : Moments (λ past. Crashes (CrashLeaves old.past (clock past) old events) past) old.past now
+  pub sound : Moments (λ past. IsSound past latest) old.past now
   pub ends : Ends status later (plan_of script).over unprinted unmarked (reads now) (last_of old events).machine
 
 -- ---- parts of a run
@@ -252,6 +259,7 @@ pub record Began (old : World) (node : Node) (now : Past) (faults_now : ℕ) (ol
   pub order : event.order ≡ orders.start
   pub follows : Follows old.past old event
   pub leaves : Crashes (Leaves old.past old.machine []) old.past
+  pub sound : IsSound old.past latest
   pub past : event.after.past ≡ now
   pub faults : event.after.faults ≡ faults_now
   pub shows : Shows old.past node now event.after.machine

@@ -3,13 +3,14 @@ use Rattle.std.specs.Prelude.{◌≡◌, ℕ, ◌+◌, ◌≤◌, true, false, L
 use Rattle.term_core.specs.Tree.{Tree}
 use Rattle.term_core.specs.View.{tree_of}
 use Rattle.file_trait.specs.DiskModel.{Past, reads, Crashes}
+use Rattle.disk_logs.specs.Crash.{IsSound}
 use Rattle.disk_logs.specs.Logs.{IsLog}
 use Rattle.db_model.specs.Commits.{CommitRecord}
 use Rattle.db_model.specs.Ops.{write}
 use Rattle.txn_log.specs.Logs.{TxnStands, handle}
 use Rattle.mn_run.specs.Commits.{AreRows}
 use Rattle.mn_run.specs.Crash.{Leaves}
-use Rattle.mn_run.specs.Files.{Holds, HoldsClosed}
+use Rattle.mn_run.specs.Files.{latest, Holds, HoldsClosed}
 use Rattle.mn_run.specs.Machine.{Machine, all_of, IsKept, unstarted, running, halted, faulted, starved}
 use Rattle.mn_run.specs.Tables.{records_of, written}
 use Rattle.mn_run.specs.declared.live.Live.{Live}
@@ -39,7 +40,8 @@ abbrev pub ShowsBase : Option ℕ → Machine → Type 0
 ShowsBase None machine = (machine.begun ≡ false) × (machine.entries ≡ [])
 ShowsBase (Some n) machine = (machine.begun ≡ true) × (machine.damage ≡ None) × (n ≡ length machine.base)
 
--- Node and disk stand for the machine, in a run that began on the disk `first`.
+-- Node and disk stand for the machine, in a run that began on the disk `first`. Where the directory has a meaning, a closed log may
+-- be trusted.
 pub record Shows (first : Past) (node : Node) (past : Past) (machine : Machine) : Type 0 where
   pub life : ShowsLife node.state past machine
   pub base : ShowsBase node.base machine
@@ -50,6 +52,7 @@ pub record Shows (first : Past) (node : Node) (past : Past) (machine : Machine) 
   pub held : Holds (reads past) machine
   pub untouched : (at : ℕ) → machine.damage ≡ Some at → past ≡ first
   pub leaves : Crashes (Leaves first machine []) past
+  pub sound : machine.damage ≡ None → IsSound past latest
 
 -- the log of a node that is up is a file of items
 abbrev pub HasLogOf : State → Past → Type 0

@@ -6,7 +6,7 @@ use Rattle.file_trait.specs.Moments.{Moments}
 use Rattle.disk_logs.specs.declared.error.LogErr.{LogErr}
 use Rattle.disk_logs.specs.declared.error.LogErr.TheVariants.{File, Bad, TooLong, Memory}
 use Rattle.txn_log.specs.Logs.{IsLogName}
-use Rattle.mn_run.specs.Crash.{Leaves}
+use Rattle.mn_run.specs.Crash.{Leaves, StaysSound}
 use Rattle.mn_run.specs.Files.{latest}
 use Rattle.mn_run.specs.Machine.{Machine, Change, added}
 use Rattle.mn_run.specs.Orders.{Order, Answer, found, no_memory, fault, damaged}
@@ -19,12 +19,13 @@ use Rattle.mn_run.specs.declared.starting.StartErr.{StartErr}
 use Rattle.mn_run.specs.declared.starting.StartErr.TheVariants as start
 
 -- A step to a machine that node and disk stand for. At each moment of it a crash leaves what is said of the old machine and the
--- entries that the step adds.
+-- entries that the step adds, and a closed log may be trusted as before.
 pub record Steps (first : Past) (old : Machine) (order : Order) (answer : Answer) (node : Node) (before now : Past) : Type 0 where
   pub new : Machine
   pub change : Change old order answer new
   pub shows : Shows first node now new
   pub during : Moments (Crashes (Leaves first old (added order answer))) before now
+  pub sound : StaysSound before now
 
 -- what a read of a key is answered
 abbrev pub AnswersRead : Tree → List Tree → Answer → Type 0

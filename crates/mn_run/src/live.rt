@@ -1,10 +1,11 @@
 //! What a node that is up works on: the table and the log of its commits.
 
-ghost use Rattle.std.specs.Prelude.{◌≡◌, ◌⊎◌, ◌≤◌, ◌<◌, ◌+◌, ◌-◌, ◌^◌, ◌++◌, ◌∷◌, [], ℕ, List, true, length, map, IsTrue, IfOk, IsErrOf, OnOk, OnErr};
+ghost use Rattle.std.specs.Prelude.{◌≡◌, ◌⊎◌, ◌≤◌, ◌<◌, ◌+◌, ◌-◌, ◌^◌, ◌++◌, ◌∷◌, [], ℕ, List, true, false, length, map, IsTrue, IfOk, IsErrOf, OnOk, OnErr};
 ghost use Rattle.file_trait.specs.DiskModel.{reads, Crashes};
 ghost use Rattle.file_trait.specs.Moments.{Moments};
 ghost use Rattle.term_core.specs.Tree.{Tree};
 ghost use Rattle.term_core.specs.View.{tree_of};
+ghost use Rattle.disk_logs.specs.Crash.{IsSound};
 ghost use Rattle.disk_logs.specs.Errors.{OnlyFile, OnlyFileOrMemory, LogCause};
 ghost use Rattle.disk_logs.specs.Logs.{IsLog};
 ghost use Rattle.txn_log.specs.Logs.{handle};
@@ -55,6 +56,12 @@ impl Live {
         // Where memory was wanting it leaves only old ones.
         ensures only_old { (rows : List Tree) (durable : ℕ) → IsTrue D.tells → LiveShows self.old (D.past disk.old) rows durable
             → IsErrOf result LogErr.Memory → Moments (Crashes (IsFront rows durable)) (D.past disk.old) (D.past disk.new) }
+        // A closed log may be trusted at each moment.
+        ensures sound { (rows : List Tree) (durable : ℕ) → IsTrue D.tells → LiveShows self.old (D.past disk.old) rows durable
+            → Moments (λ past. IsSound past latest) (D.past disk.old) (D.past disk.new) }
+        // It is one call of the disk at most, and three where the log is closed: the first put marks it open.
+        ensures calls { D.moment disk.new ≤ D.moment disk.old + 3 }
+        ensures one { self.old.log.closed ≡ false → D.moment disk.new ≤ D.moment disk.old + 1 }
         ensures named { (name : List ℕ) → IsErrOf result (LogErr.File name) → name ≡ latest }
         ensures only { OnlyFileOrMemory result }
         ensures cause { LogCause (D.faults disk.old) (D.faults disk.new) (D.blamed disk.new) result }
@@ -88,6 +95,9 @@ impl Live {
             → OnErr result (Stands (reads (D.past disk.new)) rows) }
         ensures any_moment { (rows : List Tree) (durable : ℕ) → IsTrue D.tells → LiveShows self.old (D.past disk.old) rows durable
             → Moments (Crashes (IsFront rows durable)) (D.past disk.old) (D.past disk.new) }
+        ensures sound { (rows : List Tree) (durable : ℕ) → IsTrue D.tells → LiveShows self.old (D.past disk.old) rows durable
+            → Moments (λ past. IsSound past latest) (D.past disk.old) (D.past disk.new) }
+        ensures calls { D.moment disk.new ≤ D.moment disk.old + 1 }
         ensures named { (name : List ℕ) → IsErrOf result (LogErr.File name) → name ≡ latest }
         ensures only { OnlyFile result }
         ensures cause { LogCause (D.faults disk.old) (D.faults disk.new) (D.blamed disk.new) result }
@@ -110,6 +120,9 @@ impl Live {
             → OnErr result (Stands (reads (D.past disk.new)) rows) }
         ensures any_moment { (rows : List Tree) (durable : ℕ) → IsTrue D.tells → LiveShows self.old (D.past disk.old) rows durable
             → Moments (Crashes (IsFront rows durable)) (D.past disk.old) (D.past disk.new) }
+        ensures sound { (rows : List Tree) (durable : ℕ) → IsTrue D.tells → LiveShows self.old (D.past disk.old) rows durable
+            → Moments (λ past. IsSound past latest) (D.past disk.old) (D.past disk.new) }
+        ensures calls { D.moment disk.new ≤ D.moment disk.old + 3 }
         ensures named { (name : List ℕ) → IsErrOf result (LogErr.File name) → name ≡ latest }
         ensures only { OnlyFileOrMemory result }
         ensures cause { LogCause (D.faults disk.old) (D.faults disk.new) (D.blamed disk.new) result }

@@ -1,9 +1,10 @@
 //! The top call.
 
-ghost use Rattle.std.specs.Prelude.{◌≡◌, ◌⊎◌, ◌↔◌, ◌≤◌, ◌++◌, map, string_bytes, IsTrue, ℕ, List, []};
+ghost use Rattle.std.specs.Prelude.{◌≡◌, ◌⊎◌, ◌↔◌, ◌≤◌, ◌++◌, map, string_bytes, IsTrue, ℕ, List, [], None};
 ghost use Rattle.file_trait.specs.Counts.{Rose};
 ghost use Rattle.file_trait.specs.DiskModel.{Past, reads};
 ghost use Rattle.term_core.specs.Tree.{Tree};
+ghost use Rattle.disk_logs.specs.Crash.{IsSound};
 ghost use Rattle.mn_run.specs.Files.{Means, NoMeaning, latest};
 ghost use Rattle.mn_run.specs.Machine.{Machine, Meaning, before, writes};
 ghost use Rattle.mn_run.specs.Runs.{World, Ran, Began, EndsDamaged, EndsOver, unbegun, expected};
@@ -27,6 +28,9 @@ use std::alloc::Global;
 /// Where the disk, the source and the sink tell their bytes, the replies written are those of one run of the machine, which
 /// keeps all writes as a plain list of records, and at each moment a crash leaves a front of these writes that holds all which the
 /// last mark counts as durable.
+///
+/// Where the log of the directory is closed, a crash is to leave all of it: so it is where the directory was handed over durable.
+/// `run` keeps this at each of its moments, so that a later run finds it again.
 pub fn run<D: Disk, S: Source, K: Sink>(
     alloc: Global,
     words: &[String],
@@ -41,12 +45,12 @@ pub fn run<D: Disk, S: Source, K: Sink>(
     // the commands of the script and its end, or a front of them. The directory holds the run's writes, and so does what a crash
     // leaves of it at any moment, as far as the marks say.
     ensures ran { IsTrue D.tells → IsTrue S.tells → IsTrue K.tells → HasForm (map string_bytes words.now)
-        → (meaning : Meaning) → Means (reads (D.past disk.old)) meaning
+        → IsSound (D.past disk.old) latest → (meaning : Meaning) → Means (reads (D.past disk.old)) meaning
         → Ran (S.left script.old) result.status (unbegun meaning (D.past disk.old) (D.faults disk.old)) (D.past disk.new) (D.faults disk.new) (K.written out.old) (K.written out.new) result.marks.items }
 
     // Damaged comes exactly where the directory has no meaning, with the place, unless the disk failed, memory was wanting or another
     // status ended the run before. Nothing is done to such a directory.
-    ensures damaged { IsTrue D.tells → (name : List ℕ) (at : ℕ) → result.status ≡ Status.Damaged name at → (name ≡ latest) × NoMeaning (reads (D.past disk.old)) at }
+    ensures damaged { IsTrue D.tells → IsSound (D.past disk.old) latest → (name : List ℕ) (at : ℕ) → result.status ≡ Status.Damaged name at → (name ≡ latest) × NoMeaning (reads (D.past disk.old)) at }
     ensures meaning { IsTrue D.tells → HasForm (map string_bytes words.now) → (at : ℕ) → NoMeaning (reads (D.past disk.old)) at → EndsDamaged at result.status }
     ensures kept { IsTrue D.tells → (at : ℕ) → NoMeaning (reads (D.past disk.old)) at → D.past disk.new ≡ D.past disk.old }
 
@@ -57,7 +61,7 @@ pub fn run<D: Disk, S: Source, K: Sink>(
     // With words of the form, no fault and a directory with a meaning the script was read to its end or to the first line over
     // a limit, and all was answered, or want of memory ended the run.
     ensures complete { IsTrue D.tells → IsTrue S.tells → IsTrue K.tells → HasForm (map string_bytes words.now)
-        → (base : List Tree) → Means (reads (D.past disk.old)) (writes base)
+        → IsSound (D.past disk.old) latest → (base : List Tree) → Means (reads (D.past disk.old)) (writes base)
         → ¬ Rose (S.faults script.old) (S.faults script.new) → ¬ Rose (K.faults out.old) (K.faults out.new) → ¬ Rose (D.faults disk.old) (D.faults disk.new)
         → (result.status ≡ expected (plan_of (S.left script.old)).over) ⊎ (result.status ≡ Status.Memory) }
 {
@@ -81,9 +85,10 @@ fn run_all<D: Disk, S: Source, K: Sink>(
     marks: &mut Vec<Mark>,
 ) -> Status
     requires none { marks.old.items ≡ [] }
-    ensures ran { IsTrue D.tells → IsTrue S.tells → IsTrue K.tells → (meaning : Meaning) → Means (reads (D.past disk.old)) meaning
+    ensures ran { IsTrue D.tells → IsTrue S.tells → IsTrue K.tells → IsSound (D.past disk.old) latest → (meaning : Meaning) → Means (reads (D.past disk.old)) meaning
         → Ran (S.left script.old) result (unbegun meaning (D.past disk.old) (D.faults disk.old)) (D.past disk.new) (D.faults disk.new) (K.written out.old) (K.written out.new) marks.new.items }
-    ensures over { IsTrue D.tells → (meaning : Meaning) → Means (reads (D.past disk.old)) meaning → EndsOver (D.past disk.old) (before meaning).damage result (D.past disk.new) }
+    ensures over { IsTrue D.tells → (meaning : Meaning) → Means (reads (D.past disk.old)) meaning → ((before meaning).damage ≡ None → IsSound (D.past disk.old) latest)
+        → EndsOver (D.past disk.old) (before meaning).damage result (D.past disk.new) }
     ensures read { result ≡ Status.ReadFault → Rose (S.faults script.old) (S.faults script.new) }
     ensures write { result ≡ Status.WriteFault → Rose (K.faults out.old) (K.faults out.new) }
     ensures disk { result ≡ Status.DiskFault → Rose (D.faults disk.old) (D.faults disk.new) }

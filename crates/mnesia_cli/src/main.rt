@@ -1,16 +1,22 @@
 //! The durable side of Mnesia on one node. `mnesia_cli DIR` reads commands from standard input, keeps their tables in
-//! the directory DIR, and answers each with a line. Its exit status is the status of the run.
+//! the directory DIR, and answers each with a line. Its exit status is the status of the run. One program at a time works on a
+//! directory.
 #![tactic(auto)]
 
-ghost use Rattle.std.specs.Prelude.{◌≡◌, ◌≤◌, ◌⊎◌, ◌↔◌, IsTrue, length, map, string_bytes};
+ghost use Rattle.std.specs.Prelude.{◌≡◌, ◌↔◌, ◌∷◌, [], IfSome, IsSome, IsTrue, map, string_bytes};
 ghost use Rattle.mn_run.specs.Words.{HasForm};
-ghost use Rattle.mnesia_cli.specs.Words.{IsDirectory, Names};
 
+use ending::Ending;
 use file_real::{HostDisk, HostIn, HostOut};
+use lock::Locked;
 use mn_run::{Status, run};
+use std::fs::File;
 use std::process::ExitCode;
 use std::rt::{Env, Files};
 use std::{env, fs, io};
+
+mod ending;
+mod lock;
 
 const MOST_BYTES: usize = 4096;
 
@@ -22,21 +28,20 @@ fn words_of<R: Env + AllocGlobal>(rt: &R) -> io::Result<Vec<String>> {
 }
 
 fn is_directory(word: &str) -> bool
-    ensures { IsTrue result ↔ IsDirectory word.now }
+    ensures { IsTrue result ↔ HasForm (word.now ∷ []) }
 {
     let bytes = word.as_bytes();
     !bytes.is_empty() && bytes.len() <= MOST_BYTES && bytes[0] != b'-'
 }
 
-// The directory that the words name. Where they name none it is the current one, and the run leaves that untouched.
-fn directory(words: &[String]) -> &str
-    ensures some { 1 ≤ length result.now }
-    ensures short { length result.now ≤ 4096 }
-    ensures named { Names (map string_bytes words.now) result.now }
+// The directory that the words name, none where they are not of the form.
+fn directory(words: &[String]) -> Option<&str>
+    ensures form { IsSome result ↔ HasForm (map string_bytes words.now) }
+    ensures named { IfSome result (λ dir. map string_bytes words.now ≡ dir.now ∷ []) }
 {
     match words {
-        [dir] if is_directory(dir.as_str()) => dir.as_str(),
-        _ => ".",
+        [dir] if is_directory(dir.as_str()) => Some(dir.as_str()),
+        _ => None,
     }
 }
 
@@ -58,42 +63,53 @@ fn take_closed<R: Files>(rt: &R) -> io::Result<Taken<R>> {
     })
 }
 
-fn run_on<R: Files + Input + Print + AllocGlobal>(rt: &R, words: &[String]) -> Status
-    ensures usage { result ≡ Status.Usage → HasForm (map string_bytes words.now) → ⊥ }
-    ensures refused { (HasForm (map string_bytes words.now) → ⊥) → (result ≡ Status.Usage) ⊎ (result ≡ Status.Memory) }
+// Runs the script on the directory that the words name. Before its lock is taken nothing is done with it.
+fn run_on<R: Files<File = File> + Input + Print + AllocGlobal>(rt: &R, words: &[String]) -> Ending
+    ensures usage { (result ≡ Ending.Ran Status.Usage) ↔ (HasForm (map string_bytes words.now) → ⊥) }
+{
+    let Some(dir) = directory(words) else {
+        return Ending::Ran(Status::Usage);
+    };
+    let Ok(_taken) = take_closed(rt) else {
+        return Ending::Ran(Status::Memory);
+    };
+    match Locked::take(rt, dir) {
+        Ok(lock) => Ending::Ran(run_locked(rt, words, dir, &lock)),
+        Err(refusal) => Ending::Refused(refusal),
+    }
+}
+
+fn run_locked<R: Files + Input + Print + AllocGlobal>(
+    rt: &R,
+    words: &[String],
+    dir: &str,
+    _lock: &Locked,
+) -> Status
+    requires form { HasForm (map string_bytes words.now) }
+    requires named { map string_bytes words.now ≡ dir.now ∷ [] }
+    ensures form { result ≡ Status.Usage → ⊥ }
 {
     let alloc = rt.alloc();
-    let Ok(_taken) = take_closed(rt) else {
-        return Status::Memory;
-    };
-    let Ok(mut disk) = HostDisk::new(rt, alloc, directory(words)) else {
+    let Ok(mut disk) = HostDisk::new(rt, alloc, dir) else {
         return Status::Memory;
     };
     let (mut script, mut out) = (HostIn::new(rt.reader()), HostOut::new(io::writer(rt)));
     run(alloc, words, &mut disk, &mut script, &mut out).status
 }
 
-// What a status says on standard error.
-fn explain(rt: &impl Eprint, status: &Status) {
-    match status {
-        Status::Usage => {
-            let _ = eprintln!(rt; "usage: mnesia_cli DIR");
-        }
-        Status::Damaged(name, at) => {
-            let name = str::from_utf8(name.bytes()).unwrap_or("");
-            let _ = eprintln!(rt; "damaged {name} at {at}");
-        }
-        _ => {}
-    }
+// Ends the program, with the reason on standard error.
+fn ended(rt: &impl Eprint, ending: &Ending, dir: &str) -> ExitCode {
+    let _ = ending.explain(rt, dir);
+    ExitCode::from(ending.number())
 }
 
 fn main(rt: HostRuntime) -> ExitCode {
-    let status = match words_of(&rt) {
-        Ok(words) => run_on(&rt, &words),
-        Err(error) if error.kind() == io::ErrorKind::OutOfMemory => Status::Memory,
+    match words_of(&rt) {
+        Ok(words) => ended(&rt, &run_on(&rt, &words), directory(&words).unwrap_or("")),
+        Err(error) if error.kind() == io::ErrorKind::OutOfMemory => {
+            ended(&rt, &Ending::Ran(Status::Memory), "")
+        }
         // An argument that is no text.
-        Err(_) => Status::Usage,
-    };
-    explain(&rt, &status);
-    ExitCode::from(status.number())
+        Err(_) => ended(&rt, &Ending::Ran(Status::Usage), ""),
+    }
 }

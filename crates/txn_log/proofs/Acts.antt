@@ -1,16 +1,19 @@
 -- The acts on the log of the commits.
-use Rattle.std.proofs.Common.{◌≡◌, ◌⊎◌, ℕ, zero, suc, ◌+◌, ◌<◌, ◌≤◌, Bool, true, false, List, [], ◌∷◌, ◌++◌, length, take, Some, Result, Ok, Err, OnOk, OnErr, refl, sym, ap, ◌∙◌, subst, inl, inr, append-nil, append_assoc, length-append, arith}
+use Rattle.std.proofs.Common.{◌≡◌, ◌⊎◌, ℕ, zero, suc, ◌+◌, ◌<◌, ◌≤◌, Bool, true, false, List, [], ◌∷◌, ◌++◌, length, take, drop, Some, Result, Ok, Err, OnOk, OnErr, refl, sym, ap, ◌∙◌, subst, inl, inr, append-nil, append_assoc, length-append, length-drop, arith}
 use Rattle.std.specs.Prelude.{IsErrOf}
-use Rattle.std.proofs.lemmas.List.{take_all}
+use Rattle.std.proofs.lemmas.List.{take_all, take-append-drop}
 use Rattle.std.proofs.lemmas.List.Elements.{All-append, All-cons, All-nil}
 use Rattle.file_trait.specs.DiskModel.{Past, reads}
+use Rattle.file_trait.specs.Calls.{IsDurable}
 use Rattle.file_trait.specs.Moments.{Moments}
 use Rattle.file_trait.specs.Touched.{Concerns, AllConcern, Touches}
-use Rattle.file_trait.specs.DiskModel.{DiskOp, to_file, to_dir, create, rename, remove, sync, sync_dir}
+use Rattle.file_trait.specs.DiskModel.{DiskOp, to_file, to_dir, create, rename, remove, sync, sync_failed, sync_dir}
 use Rattle.file_trait.proofs.Moments.{weaker}
-use Rattle.log_items.specs.Items.{item_bytes, wire, head_bytes, log_bytes, IsContent, AreContents}
+use Rattle.log_items.specs.Items.{item_bytes, wire, log_bytes, IsContent, AreContents, StartsNoItem}
+use Rattle.log_items.proofs.ItemLemmas.{same_item, log_bytes-append}
 use Rattle.log_items.proofs.Unique.{written}
-use Rattle.disk_logs.specs.Crash.{HasPrefix, Stands, LogLeaves}
+use Rattle.disk_logs.specs.Crash.{HasPrefix, Stands, IsSound, LogLeaves}
+use Rattle.disk_logs.specs.Errors.{OnlyFileOrMemory}
 use Rattle.disk_logs.specs.Logs.{Handle, file_of, opened, with_mark, IsLog, AreItems, HasAppended, HasMarked}
 use Rattle.disk_logs.specs.declared.error.LogErr.{LogErr}
 use Rattle.disk_logs.specs.declared.error.LogErr.TheVariants.{File, Bad, TooLong, Memory}
@@ -26,6 +29,10 @@ on_ok (Err error) f h = tt
 pub any_ok : {P : Type 0} (r : Result Unit LogErr) → P → OnOk r P
 any_ok (Ok done) h = h
 any_ok (Err error) h = tt
+
+-- such an error names no wrong place
+pub only_bad : (error : LogErr) (other : List ℕ) (at : ℕ) → OnlyFileOrMemory {T = Handle} (Err error) → error ≡ Bad other at → ⊥
+only_bad error other at only is = subst (λ e. OnlyFileOrMemory {T = Handle} (Err e)) is only
 
 -- ---- what a crash leaves
 
@@ -51,6 +58,7 @@ concerns_more N M (to_dir (create other)) f h = f other h
 concerns_more N M (to_dir (rename from to)) f h = (f from h.0, f to h.1)
 concerns_more N M (to_dir (remove other)) f h = f other h
 concerns_more N M (sync other) f h = tt
+concerns_more N M (sync_failed other) f h = f other h
 concerns_more N M sync_dir f h = tt
 
 all_more : (N M : List ℕ → Type 0) (ops : List DiskOp) → ((name : List ℕ) → N name → M name) → AllConcern N ops → AllConcern M ops
@@ -122,18 +130,26 @@ item_is bytes items same (commit, h) =
 
 -- ---- an append that failed
 
+-- a front of an item is no item
+part_starts_none : (content : List ℕ) (k : ℕ) → IsContent content → k < length (item_bytes content)
+    → StartsNoItem (take k (item_bytes content))
+part_starts_none content k fits short other small (more, is) =
+    let whole = item_bytes content in
+    let all : whole ++ [] ≡ item_bytes other ++ (more ++ drop k whole) =
+    append-nil whole ∙ sym (take-append-drop k whole) ∙ ap (λ front. front ++ drop k whole) is
+    ∙ append_assoc (item_bytes other) more (drop k whole) in
+    let none_left : [] ≡ more ++ drop k whole = (same_item content other [] (more ++ drop k whole) fits small all).1 in
+    omega (arith, ap length none_left, length-append more (drop k whole), length-drop k whole, short)
+
 eq_or_lt : (m n : ℕ) → m ≤ n → (m ≡ n) ⊎ (m < n)
 eq_or_lt zero zero le = inl refl
 eq_or_lt zero (suc n) le = inr (omega arith)
 eq_or_lt (suc m) zero le = absurd (omega arith)
 eq_or_lt (suc m) (suc n) le = elim (eq_or_lt m n (omega arith)) [ inl same ↦ inl (ap suc same) | inr short ↦ inr (omega arith) ]
 
-wire_more : (items : List (List ℕ)) (item : List ℕ) → wire (items ++ item ∷ []) ≡ wire items ++ item_bytes item
-wire_more [] item = append-nil (item_bytes item)
-wire_more (first ∷ items) item = ap (λ bytes. item_bytes first ++ bytes) (wire_more items item) ∙ sym (append_assoc (item_bytes first) (wire items) (item_bytes item))
-
 log_more : (closed : Bool) (items : List (List ℕ)) (item : List ℕ) → log_bytes closed (items ++ item ∷ []) ≡ log_bytes closed items ++ item_bytes item
-log_more closed items item = ap (λ bytes. head_bytes closed ++ bytes) (wire_more items item) ∙ sym (append_assoc (head_bytes closed) (wire items) (item_bytes item))
+log_more closed items item =
+    log_bytes-append closed items (item ∷ []) ∙ ap (λ bytes. log_bytes closed items ++ bytes) (append-nil (item_bytes item))
 
 module _ (commits : List CommitRecord) (items : List (List ℕ)) (commit : CommitRecord) (content : List ℕ) (are : AreItemsOf commits items) (fit : AreContents items) (is_commit : IsCommit content commit) (small : IsContent content) where
   -- the front of a new item behind the old ones
@@ -161,7 +177,7 @@ module _ (commits : List CommitRecord) (items : List (List ℕ)) (commit : Commi
             record {
               rest = take (suc k) (item_bytes content);
               fit = fit;
-              end = inr (record { content = content; size = suc k; fits = small; some = omega arith; cut = short; is = refl });
+              end = part_starts_none content (suc k) small short;
               is = refl;
             },
           ),
@@ -214,7 +230,7 @@ close_logs r old new log now was is (all, here) wanted same given = (
 -- the log itself
 module _ (old new : Past) (log now : Handle) (was : LogState) (commits : List CommitRecord) (synced : ℕ) (is : log ≡ handle was) (h : TxnStands old was commits synced) where
   log_reads : reads old (file_of log) ≡ Some (log_bytes log.closed h.items)
-  log_reads = ap (λ (l : Handle). reads old (file_of l)) is ∙ h.stands.1.read ∙ ap (λ (l : Handle). Some (log_bytes l.closed h.items)) (sym is)
+  log_reads = ap (λ (l : Handle). reads old (file_of l)) is ∙ h.stands.stands.read ∙ ap (λ (l : Handle). Some (log_bytes l.closed h.items)) (sym is)
 
   pub append_fails : (error : LogErr) (bytes : List ℕ) (commit : CommitRecord) → IsItemOf commit bytes
       → ((all more : List (List ℕ)) → bytes ≡ wire more → reads old (file_of log) ≡ Some (log_bytes log.closed all) → HasAppended {T = Unit {0}} (Err error) now.closed (opened log).closed all more (reads new (file_of log)))
@@ -222,7 +238,7 @@ module _ (old new : Past) (log now : Handle) (was : LogState) (commits : List Co
   append_fails error bytes commit item given =
       let so = given h.items (commit_text commit ∷ []) (item_wire bytes commit item) log_reads in
       let set : (opened log).closed ≡ false = ap (λ (l : Handle). (opened l).closed) is in
-      append_left commits h.items commit (commit_text commit) h.are h.stands.1.fit item.text item.fits error now.closed new
+      append_left commits h.items commit (commit_text commit) h.are h.stands.stands.fit item.text item.fits error now.closed new
       (subst (λ b. HasAppended {T = Unit {0}} (Err error) now.closed b h.items (commit_text commit ∷ []) (reads new latest)) set
       (subst (λ n. HasAppended {T = Unit {0}} (Err error) now.closed (opened log).closed h.items (commit_text commit ∷ []) (reads new n)) (ap file_of is) so))
 
@@ -232,14 +248,14 @@ module _ (old new : Past) (log now : Handle) (was : LogState) (commits : List Co
     where
       by : (r : Result Unit LogErr) → HasMarked r log.closed true h.items (reads new latest) → OnErr r (Reads commits (reads new latest))
       by (Ok done) so = tt
-      by (Err (File name)) (mark, reads_so) = reads_whole mark new commits h.items h.are h.stands.1.fit reads_so
+      by (Err (File name)) (mark, reads_so) = reads_whole mark new commits h.items h.are h.stands.stands.fit reads_so
       by (Err (Bad name at)) never = absurd never
       by (Err TooLong) never = absurd never
-      by (Err Memory) reads_so = reads_whole log.closed new commits h.items h.are h.stands.1.fit reads_so
+      by (Err Memory) reads_so = reads_whole log.closed new commits h.items h.are h.stands.stands.fit reads_so
 
   pub sync_fails : (r : Result Unit LogErr) → ((other : List ℕ) → reads new other ≡ reads old other) → OnErr r (Reads commits (reads new latest))
   sync_fails (Ok done) same = tt
-  sync_fails (Err error) same = reads_whole was.closed new commits h.items h.are h.stands.1.fit (same latest ∙ h.stands.1.read)
+  sync_fails (Err error) same = reads_whole was.closed new commits h.items h.are h.stands.stands.fit (same latest ∙ h.stands.stands.read)
 
   pub append_moments : (bytes : List ℕ) (commit : CommitRecord) → IsItemOf commit bytes
       → ((all more : List (List ℕ)) (least : ℕ) → AreContents more → bytes ≡ wire more → Stands old log all least → Moments (LogLeaves log.name (all ++ more) least) old new)
@@ -250,6 +266,20 @@ module _ (old new : Past) (log now : Handle) (was : LogState) (commits : List Co
 
   pub same_moments : ((all : List (List ℕ)) (least : ℕ) → Stands old log all least → Moments (LogLeaves log.name all least) old new) → Moments (Leaves commits synced) old new
   same_moments given = moments_commits commits h.items synced old new log.name (handle_name log was is) h.are (given h.items (suc synced) (log_stands old log was commits synced is h))
+
+  -- it stays sound
+  pub log_sound : ((all : List (List ℕ)) (least : ℕ) → Stands old log all least → Moments (λ past. IsSound past log.name) old new)
+      → Moments (λ past. IsSound past latest) old new
+  log_sound given =
+      subst (λ name. Moments (λ past. IsSound past name) old new) (handle_name log was is)
+      (given h.items (suc synced) (log_stands old log was commits synced is h))
+
+  pub log_durable : (r : Result Unit LogErr) → was.closed ≡ false
+      → ((all : List (List ℕ)) (least : ℕ) → Stands old log all least → log.closed ≡ false → OnOk r (IsDurable new log.name))
+      → OnOk r (IsDurable new latest)
+  log_durable r is_open given =
+      subst (λ name. OnOk r (IsDurable new name)) (handle_name log was is)
+      (given h.items (suc synced) (log_stands old log was commits synced is h) (ap (λ (l : Handle). l.closed) is ∙ is_open))
 
   -- at Ok
   module _ (state : LogState) (now_is : now ≡ handle state) where

@@ -144,9 +144,6 @@ read_result content t (Err e) found h = tt
 
 -- ---- what is no commit
 
-pub none_without_fields : (t : Tree) → HasNoFields t → HasNoCommit t
-none_without_fields t none commit has = none commit.version (trees_of (map op_tree commit.operations)) has.0.version has.1
-
 pub none_without_ops : (t : Tree) (version : ℕ) (terms : List Term) (found : Option (List Op)) → t ≡ commit_shape version (forest_of terms)
     → MatchOption found (AreNoOps (map tree_of terms)) (λ ops. AreOps (map tree_of terms) (map operation ops)) → found ≡ None → HasNoCommit t
 none_without_ops t version terms (Some ops) is none missing commit has = absurd cc

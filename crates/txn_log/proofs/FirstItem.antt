@@ -1,5 +1,5 @@
 -- The first item of a log.
-use Rattle.std.proofs.Common.{◌≡◌, ◌≤◌, ℕ, List, [], ◌∷◌, length, Some, None, Result, Ok, Err, refl, sym, ap, subst, lit<, lit≤, arith, codes, rules}
+use Rattle.std.proofs.Common.{◌≡◌, ◌≤◌, ℕ, List, [], ◌∷◌, length, Some, Result, Ok, Err, refl, sym, ap, subst, lit<, lit≤, arith, codes, rules}
 use Rattle.std.specs.Prelude.{slice_get, IfOk, IsTrue, Bool, false, ◌↔◌, take}
 use Rattle.std.specs.Str.{IsAscii}
 use Rattle.std.proofs.lemmas.List.Elements.{All-cons, All-nil}
@@ -43,9 +43,8 @@ head_first (x ∷ items) first (Ok has) is h =
     let same : x ≡ first = cc in
     (λ yes. (subst IsHead (sym same) (h.0 yes), tt), λ other y others e head. let again : y ≡ first = cc in let yes = h.1 (subst IsHead again head) in cc (yes, other))
 
-pub no_first : (items : List (List ℕ)) → slice_get items 0 ≡ None → LacksHead items
-no_first [] is = λ first others same head. cc same
-no_first (x ∷ items) is = absurd (cc)
+pub no_first : (items : List (List ℕ)) → length items ≡ 0 → LacksHead items
+no_first items none first others is head = absurd (omega (arith, none, ap length is))
 
 -- ---- the text that is written
 

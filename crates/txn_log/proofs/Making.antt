@@ -8,8 +8,7 @@ use Rattle.file_trait.proofs.Moments.{then_done, weaker, at_end}
 use Rattle.file_trait.proofs.Touched.{concerns_spares, kept, then_touched}
 use Rattle.log_items.specs.Items.{log_bytes, AreContents}
 use Rattle.log_items.proofs.Unique.{written}
-use Rattle.disk_logs.specs.Crash.{Stands, OldOrWhole}
-use Rattle.disk_logs.specs.Errors.{OnlyFileOrMemory}
+use Rattle.disk_logs.specs.Crash.{Stands, DraftStands, IsSound, OldOrWhole}
 use Rattle.disk_logs.specs.Logs.{Handle, draft_name, IsKept, IsMoved}
 use Rattle.disk_logs.specs.declared.error.LogErr.{LogErr}
 use Rattle.disk_logs.specs.declared.error.LogErr.TheVariants.{Bad}
@@ -47,9 +46,6 @@ no_commits : (commits : List CommitRecord) (file : Option (List ℕ)) → file �
 no_commits commits file none (inl (also, is)) = is
 no_commits commits file none (inr (bytes, there, has)) = absurd (cc)
 
-pub only_bad : (error : LogErr) (other : List ℕ) (at : ℕ) → OnlyFileOrMemory {T = Handle} (Err error) → error ≡ Bad other at → ⊥
-only_bad error other at only is = subst (λ e. OnlyFileOrMemory {T = Handle} (Err e)) is only
-
 abbrev pub new_state : Handle → LogState
 new_state log = record { commits = 0; closed = log.closed }
 
@@ -66,6 +62,15 @@ module _ (old mid : Past) (name : List ℕ) (name_is : name ≡ latest) (absent 
   draft_moments : IsSettled old latest → Moments (OldOrCommits old []) old mid
   draft_moments settled = weaker IsNowhere (OldOrCommits old []) old mid (λ past h image w. inr (inl (no_image past h image w, refl))) (nowhere_moments settled)
 
+  -- a name that stands for no file is sound
+  draft_sound : Moments (λ past. IsSound past latest) old mid
+  draft_sound =
+      weaker (λ past. named past latest ≡ None) (λ past. IsSound past latest) old mid
+      (λ past none file items there. absurd (cc (none, there)))
+      (kept (λ n. n ≡ draft_name name) (λ past. named past latest ≡ None) old mid
+      (λ op past concerns none. named_other past op latest (concerns_spares (λ n. n ≡ draft_name name) op latest other_name concerns) ∙ none)
+      touched (no_name (content old) (named old latest) absent))
+
   draft_touches : Touches IsLogName old mid
   draft_touches = touches_more (λ n. n ≡ draft_name name) IsLogName old mid (λ n at. inr (at ∙ ap draft_name name_is)) touched
 
@@ -75,8 +80,10 @@ module _ (old mid : Past) (name : List ℕ) (name_is : name ≡ latest) (absent 
     log = tt;
     opened = λ commits has. tt;
     kept = λ commits has. subst (Reads commits) (sym (others latest other_name)) has;
-    stands = λ commits has settled. tt;
+    stands = λ commits has settled sound. tt;
     any_moment = λ commits has settled. subst (λ cs. Moments (OldOrCommits old cs) old mid) (sym (no_commits commits (reads old latest) absent has)) (draft_moments settled);
+    sound = λ sound. draft_sound;
+    trusted = λ items fit closed. absurd (cc (closed, absent));
     bad = λ other at is. absurd (never other at (cc));
     wrong = λ at wrong. tt;
     refused = λ other at is. absurd (never other at (cc));
@@ -86,14 +93,24 @@ module _ (old mid : Past) (name : List ℕ) (name_is : name ≡ latest) (absent 
   -- ---- its publication
 
   module _ (new : Past) (draft : Handle) (draft_is : draft ≡ record { name = name; draft = true; closed = true })
-      (here : reads mid (draft_name name) ≡ Some (log_bytes true (head_text ∷ []))) (others : (other : List ℕ) → (other ≡ draft_name name → ⊥) → reads mid other ≡ reads old other)
-      (moments : (whole : List ℕ) → reads mid (draft_name draft.name) ≡ Some whole → Moments (OldOrWhole mid draft.name whole) mid new)
+      (here : reads mid (draft_name name) ≡ Some (log_bytes true (head_text ∷ [])))
+      (drafted : DraftStands mid (draft_name name) (log_bytes true (head_text ∷ [])))
+      (others : (other : List ℕ) → (other ≡ draft_name name → ⊥) → reads mid other ≡ reads old other)
+      (moments : (whole : List ℕ) → DraftStands mid (draft_name draft.name) whole → Moments (OldOrWhole mid draft.name whole) mid new)
+      (sound : (items : List (List ℕ)) → AreContents items → DraftStands mid (draft_name draft.name) (log_bytes draft.closed items)
+      → IsSound mid draft.name → Moments (λ past. IsSound past draft.name) mid new)
       (touches : Touches (λ n. (n ≡ draft.name) ⊎ (n ≡ draft_name draft.name)) mid new) where
     draft_is_latest : draft.name ≡ latest
     draft_is_latest = ap (λ (l : Handle). l.name) draft_is ∙ name_is
 
     draft_here : reads mid (draft_name draft.name) ≡ Some (log_bytes true (head_text ∷ []))
     draft_here = ap (λ (l : Handle). reads mid (draft_name l.name)) draft_is ∙ here
+
+    draft_stands : DraftStands mid (draft_name draft.name) (log_bytes draft.closed (head_text ∷ []))
+    draft_stands = subst (λ (l : Handle). DraftStands mid (draft_name l.name) (log_bytes l.closed (head_text ∷ []))) (sym draft_is) drafted
+
+    draft_closed : draft.closed ≡ true
+    draft_closed = ap (λ (l : Handle). l.closed) draft_is
 
     publish_moments : IsSettled old latest → Moments (OldOrCommits old []) mid new
     publish_moments settled =
@@ -103,7 +120,16 @@ module _ (old mid : Past) (name : List ℕ) (name_is : name ≡ latest) (absent 
           | inl before ↦ inr (inl (before.2 ∙ none before.0 before.1, refl))
           | inr now ↦ inr (is_new (image latest) now)
         ])
-        (subst (λ n. Moments (OldOrWhole mid n (log_bytes true (head_text ∷ []))) mid new) draft_is_latest (moments (log_bytes true (head_text ∷ [])) draft_here))
+        (subst (λ n. Moments (OldOrWhole mid n (log_bytes true (head_text ∷ []))) mid new) draft_is_latest
+        (moments (log_bytes true (head_text ∷ []))
+        (subst (λ b. DraftStands mid (draft_name draft.name) (log_bytes b (head_text ∷ []))) draft_closed draft_stands)))
+
+    made_sound : Moments (λ past. IsSound past latest) old new
+    made_sound =
+        let sound_now = at_end (λ past. IsSound past latest) old mid draft_sound in
+        then_done (λ past. IsSound past latest) old mid new draft_sound
+        (subst (λ n. Moments (λ past. IsSound past n) mid new) draft_is_latest
+        (sound (head_text ∷ []) head_fits draft_stands (subst (IsSound mid) (sym draft_is_latest) sound_now)))
 
     made_moments : (commits : List CommitRecord) → Reads commits (reads old latest) → IsSettled old latest → Moments (OldOrCommits old commits) old new
     made_moments commits has settled = subst (λ cs. Moments (OldOrCommits old cs) old new) (sym (no_commits commits (reads old latest) absent has))
@@ -126,8 +152,10 @@ module _ (old mid : Past) (name : List ℕ) (name_is : name ≡ latest) (absent 
         | inl same ↦ subst (Reads commits) (sym (ap (reads new) (sym draft_is_latest) ∙ same.1 ∙ ap (reads mid) draft_is_latest ∙ others latest other_name)) has
         | inr moved ↦ subst (λ cs. Reads cs (reads new latest)) (sym (no_commits commits (reads old latest) absent has)) (is_new (reads new latest) (moved_reads moved))
       ];
-      stands = λ commits has settled. tt;
+      stands = λ commits has settled sound. tt;
       any_moment = made_moments;
+      sound = λ sound. made_sound;
+      trusted = λ items fit closed. absurd (cc (closed, absent));
       bad = λ other at is. absurd (never other at (cc));
       wrong = λ at wrong. tt;
       refused = λ other at is. absurd (never other at (cc));
@@ -135,7 +163,8 @@ module _ (old mid : Past) (name : List ℕ) (name_is : name ≡ latest) (absent 
     }
 
     pub published : (log : Handle) → log ≡ record { name = draft.name; draft = false; closed = draft.closed } → IsMoved (draft_name draft.name) draft.name mid new
-        → ((items : List (List ℕ)) → AreContents items → reads mid (draft_name draft.name) ≡ Some (log_bytes draft.closed items) → Stands new log items (length items))
+        → ((items : List (List ℕ)) → AreContents items → DraftStands mid (draft_name draft.name) (log_bytes draft.closed items)
+        → Stands new log items (length items))
         → Opens old new (Ok (new_state log))
     published log is moved stands = record {
       log = (head_text ∷ [], moved_reads moved ∙ ap (λ b. Some (log_bytes b (head_text ∷ []))) (sym is_closed));
@@ -143,18 +172,19 @@ module _ (old mid : Past) (name : List ℕ) (name_is : name ≡ latest) (absent 
           let none = no_commits commits (reads old latest) absent has in
           (ap length (sym none), subst (λ cs. Reads cs (reads new latest)) (sym none) (is_new (reads new latest) (moved_reads moved)));
       kept = λ commits has. tt;
-      stands = λ commits has settled. subst (λ cs. TxnStands new (new_state log) cs (length cs)) (sym (no_commits commits (reads old latest) absent has))
-          (txn_synced new log (new_state log) [] (head_text ∷ []) log_is refl (text_of_head, tt) (stands (head_text ∷ []) head_fits (draft_here ∙ ap (λ b. Some (log_bytes b (head_text ∷ []))) (sym draft_closed))));
+      stands = λ commits has settled sound.
+          subst (λ cs. TxnStands new (new_state log) cs (length cs)) (sym (no_commits commits (reads old latest) absent has))
+          (txn_synced new log (new_state log) [] (head_text ∷ []) log_is refl (text_of_head, tt)
+          (stands (head_text ∷ []) head_fits draft_stands));
       any_moment = made_moments;
+      sound = λ sound. made_sound;
+      trusted = λ items fit closed. absurd (cc (closed, absent));
       bad = λ other at never. absurd (cc);
       wrong = λ at wrong. never_wrong at wrong;
       refused = λ other at never. absurd (cc);
       touches = made_touches;
     }
       where
-        draft_closed : draft.closed ≡ true
-        draft_closed = ap (λ (l : Handle). l.closed) draft_is
-
         is_closed : log.closed ≡ true
         is_closed = ap (λ (l : Handle). l.closed) is ∙ draft_closed
 

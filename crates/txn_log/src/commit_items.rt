@@ -245,6 +245,8 @@ mod tests {
         5, 119, 114, 105, 116, 101, 119, 1, 116, 104, 3, 119, 1, 116, 97, 1, 119, 1, 97, 106,
     ];
 
+    const HEADER: [u8; 16] = [0, 0, 0, 42, 12, 44, 55, 66, 46, 3, 252, 82, 112, 10, 98, 59];
+
     #[test]
     fn a_commit_there_and_back(rt: HostRuntime) -> Result<(), Fail> {
         let found = decode_commit(rt.alloc(), &COMMIT)?;
@@ -253,9 +255,9 @@ mod tests {
             let Ok(item) = encode_commit(rt.alloc(), &commit) else {
                 return Err(Fail::new("no item"));
             };
-            assert!(rt; item.bytes().starts_with(&[0, 0, 0, 42, 12, 44, 55, 66]));
+            assert!(rt; item.bytes().starts_with(&HEADER));
             assert!(rt; item.bytes().ends_with(&COMMIT));
-            assert_eq!(rt; item.bytes().len(), 50);
+            assert_eq!(rt; item.bytes().len(), 58);
         }
         commit_law();
         item_law();

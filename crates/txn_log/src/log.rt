@@ -1,27 +1,29 @@
 //! The log of the commits over a disk.
 
-ghost use Rattle.std.specs.Prelude.{◌≡◌, ◌⊎◌, ◌+◌, ◌-◌, ◌<◌, ◌≤◌, ◌^◌, ◌++◌, ◌∷◌, [], ℕ, List, true, length, IsTrue, IfOk, IsErrOf, OnOk, OnErr};
-ghost use Rattle.file_trait.specs.Calls.{IsAbsent};
+ghost use Rattle.std.specs.Prelude.{◌≡◌, ◌⊎◌, ◌+◌, ◌-◌, ◌<◌, ◌≤◌, ◌^◌, ◌++◌, ◌∷◌, [], ℕ, List, true, false, length, IsTrue, IfOk, IsErrOf, OnOk, OnErr};
+ghost use Rattle.file_trait.specs.Calls.{IsAbsent, IsDurable};
 ghost use Rattle.file_trait.specs.DiskModel.{reads, IsSettled};
 ghost use Rattle.file_trait.specs.Moments.{Moments};
 ghost use Rattle.file_trait.specs.Touched.{Touches};
+ghost use Rattle.disk_logs.specs.Crash.{IsSound};
 ghost use Rattle.disk_logs.specs.Errors.{OnlyFile, OnlyFileOrMemory, LogCause};
-ghost use Rattle.disk_logs.specs.Logs.{IsLog, opened};
+ghost use Rattle.disk_logs.specs.Logs.{IsLog, IsRead};
+ghost use Rattle.log_items.specs.Items.{log_bytes, AreContents};
 ghost use Rattle.db_model.specs.Commits.{CommitRecord};
 ghost use Rattle.txn_log.specs.Commits.{IsItemOf};
-ghost use Rattle.txn_log.specs.Opens.{IsItemsFile, Opens};
+ghost use Rattle.txn_log.specs.Opens.{Opens};
 ghost use Rattle.txn_log.specs.Logs.{latest as latest_name, handle, Reads, IsWrong, TxnStands, Leaves, OldOrCommits, IsLogName};
 
 use crate::commit_items::CommitItem;
 use crate::counting::counted;
 use crate::heads::HEAD_TEXT;
 use crate::names::latest;
-use disk_logs::{Log, LogErr, check};
+use disk_logs::{Log, LogErr, LogFile};
 use file_trait::Disk;
 use std::alloc::Global;
 use std::marker::Model;
 
-/// The log of the commits. It is published, and open while it grows.
+/// The log of the commits. It is published, closed as it is opened, and open from the first append on.
 #[derive(Drop)]
 pub struct TxnLog {
     log: Log,
@@ -41,8 +43,8 @@ impl Model for TxnLog {
 
 impl TxnLog {
     /// Opens `LATEST.LOG`. Where there is none, one without commits is published. It is `Bad` exactly where the file is no log of
-    /// commits, at its first wrong place, and then nothing is done to the disk. Else it is made durable, an incomplete last item is
-    /// cut off, and it is marked open.
+    /// commits, at its first wrong place, and then nothing is done to the disk. A file whose mark says open is renewed: its whole items
+    /// are published as a new file. One whose mark says closed is trusted as it is.
     pub fn open_latest<D: Disk>(alloc: Global, disk: &mut D) -> Result<TxnLog, LogErr>
         ensures few { IfOk result (λ log. log.commits < 2 ^ 63) }
         ensures log { IsTrue D.tells → IfOk result (λ log. IsLog (D.past disk.new) (handle log)) }
@@ -55,9 +57,11 @@ impl TxnLog {
 
         // At Ok all of them are synced. At each moment a crash leaves what it could leave before, or exactly these commits.
         ensures stands { (commits : List CommitRecord) → IsTrue D.tells → Reads commits (reads (D.past disk.old) latest_name) → IsSettled (D.past disk.old) latest_name
-            → IfOk result (λ log. TxnStands (D.past disk.new) log commits (length commits)) }
+            → IsSound (D.past disk.old) latest_name → IfOk result (λ log. TxnStands (D.past disk.new) log commits (length commits)) }
         ensures any_moment { (commits : List CommitRecord) → IsTrue D.tells → Reads commits (reads (D.past disk.old) latest_name) → IsSettled (D.past disk.old) latest_name
             → Moments (OldOrCommits (D.past disk.old) commits) (D.past disk.old) (D.past disk.new) }
+        ensures sound { IsTrue D.tells → IsSound (D.past disk.old) latest_name → Moments (λ past. IsSound past latest_name) (D.past disk.old) (D.past disk.new) }
+        ensures trusted { (items : List (List ℕ)) → IsTrue D.tells → AreContents items → reads (D.past disk.old) latest_name ≡ Some (log_bytes true items) → D.past disk.new ≡ D.past disk.old }
 
         ensures bad { IsTrue D.tells → (name : List ℕ) (at : ℕ) → IsErrOf result (LogErr.Bad name at) → (name ≡ latest_name) × IsWrong at (reads (D.past disk.old) latest_name) }
         ensures wrong { IsTrue D.tells → (at : ℕ) → IsWrong at (reads (D.past disk.old) latest_name) → IfOk result (λ log. ⊥) }
@@ -68,14 +72,14 @@ impl TxnLog {
         ensures time { D.moment disk.old ≤ D.moment disk.new }
         ensures cause { LogCause (D.faults disk.old) (D.faults disk.new) (D.blamed disk.new) result }
     {
-        match check(alloc, disk, latest()) {
-            Ok(true) => resumed(alloc, disk),
-            Ok(false) => made(alloc, disk),
+        match LogFile::read(alloc, disk, latest()) {
+            Ok(Some(read)) => resumed(alloc, disk, &read),
+            Ok(None) => made(alloc, disk),
             Err(error) => Err(error),
         }
     }
 
-    /// Puts a commit behind those of the log. A log that is closed is marked open first.
+    /// Puts a commit behind those of the log. A log that is closed is marked open and synced first.
     pub fn append<D: Disk>(&mut self, disk: &mut D, item: &CommitItem) -> Result<(), LogErr>
         requires log { IsTrue D.tells → IsLog (D.past disk.old) (handle self.old) }
         requires few { self.old.commits < 2 ^ 64 - 1 }
@@ -99,10 +103,16 @@ impl TxnLog {
         // Where memory was wanting it leaves only old ones.
         ensures only_old { (commits : List CommitRecord) (synced : ℕ) → IsTrue D.tells → TxnStands (D.past disk.old) self.old commits synced
             → IsErrOf result LogErr.Memory → Moments (Leaves commits synced) (D.past disk.old) (D.past disk.new) }
+        ensures sound { (commits : List CommitRecord) (synced : ℕ) → IsTrue D.tells → TxnStands (D.past disk.old) self.old commits synced
+            → Moments (λ past. IsSound past latest_name) (D.past disk.old) (D.past disk.new) }
         ensures touches { IsTrue D.tells → Touches IsLogName (D.past disk.old) (D.past disk.new) }
         ensures named { (name : List ℕ) → IsErrOf result (LogErr.File name) → name ≡ latest_name }
         ensures only { OnlyFileOrMemory result }
         ensures time { D.moment disk.old ≤ D.moment disk.new }
+
+        // It is one write, and three calls of the disk where the log is closed.
+        ensures few { D.moment disk.new ≤ D.moment disk.old + 3 }
+        ensures one { self.old.closed ≡ false → D.moment disk.new ≤ D.moment disk.old + 1 }
         ensures cause { LogCause (D.faults disk.old) (D.faults disk.new) (D.blamed disk.new) result }
     {
         match self.log.append(disk, item.bytes()) {
@@ -124,16 +134,19 @@ impl TxnLog {
             → OnErr result (Reads commits (reads (D.past disk.new) latest_name)) }
         ensures any_moment { (commits : List CommitRecord) (synced : ℕ) → IsTrue D.tells → TxnStands (D.past disk.old) self.old commits synced
             → Moments (Leaves commits synced) (D.past disk.old) (D.past disk.new) }
+        ensures sound { (commits : List CommitRecord) (synced : ℕ) → IsTrue D.tells → TxnStands (D.past disk.old) self.old commits synced
+            → Moments (λ past. IsSound past latest_name) (D.past disk.old) (D.past disk.new) }
         ensures touches { IsTrue D.tells → Touches IsLogName (D.past disk.old) (D.past disk.new) }
         ensures named { (name : List ℕ) → IsErrOf result (LogErr.File name) → name ≡ latest_name }
         ensures only { OnlyFile result }
         ensures time { D.moment disk.old ≤ D.moment disk.new }
+        ensures few { D.moment disk.new ≤ D.moment disk.old + 1 }
         ensures cause { LogCause (D.faults disk.old) (D.faults disk.new) (D.blamed disk.new) result }
     {
         self.log.sync(disk)
     }
 
-    /// Marks the log closed and makes it durable.
+    /// Closes the log where it is open: it is made durable, marked closed, and made durable again.
     pub fn close<D: Disk>(&mut self, disk: &mut D) -> Result<(), LogErr>
         requires { IsTrue D.tells → IsLog (D.past disk.old) (handle self.old) }
         ensures wanted { IsTrue D.tells → IsErrOf result LogErr.Memory → IsLog (D.past disk.new) (handle self.new) }
@@ -147,10 +160,15 @@ impl TxnLog {
             → OnErr result (Reads commits (reads (D.past disk.new) latest_name)) }
         ensures any_moment { (commits : List CommitRecord) (synced : ℕ) → IsTrue D.tells → TxnStands (D.past disk.old) self.old commits synced
             → Moments (Leaves commits synced) (D.past disk.old) (D.past disk.new) }
+        ensures sound { (commits : List CommitRecord) (synced : ℕ) → IsTrue D.tells → TxnStands (D.past disk.old) self.old commits synced
+            → Moments (λ past. IsSound past latest_name) (D.past disk.old) (D.past disk.new) }
+        ensures durable { (commits : List CommitRecord) (synced : ℕ) → IsTrue D.tells → TxnStands (D.past disk.old) self.old commits synced → self.old.closed ≡ false
+            → OnOk result (IsDurable (D.past disk.new) latest_name) }
         ensures touches { IsTrue D.tells → Touches IsLogName (D.past disk.old) (D.past disk.new) }
         ensures named { (name : List ℕ) → IsErrOf result (LogErr.File name) → name ≡ latest_name }
         ensures only { OnlyFileOrMemory result }
         ensures time { D.moment disk.old ≤ D.moment disk.new }
+        ensures few { D.moment disk.new ≤ D.moment disk.old + 3 }
         ensures cause { LogCause (D.faults disk.old) (D.faults disk.new) (D.blamed disk.new) result }
     {
         self.log.close(disk)
@@ -164,9 +182,10 @@ impl TxnLog {
     }
 }
 
-// Opens the log that is there.
-fn resumed<D: Disk>(alloc: Global, disk: &mut D) -> Result<TxnLog, LogErr>
-    requires { IsTrue D.tells → IsItemsFile (reads (D.past disk.old) latest_name) }
+// Opens the log that was read.
+fn resumed<D: Disk>(alloc: Global, disk: &mut D, read: &LogFile) -> Result<TxnLog, LogErr>
+    requires whole { IsRead read.now }
+    requires read { IsTrue D.tells → reads (D.past disk.old) latest_name ≡ Some read.now.bytes }
     ensures few { IfOk result (λ log. log.commits < 2 ^ 63) }
     ensures opens { IsTrue D.tells → Opens (D.past disk.old) (D.past disk.new) result }
     ensures named { (name : List ℕ) → IsErrOf result (LogErr.File name) → IsLogName name }
@@ -174,14 +193,12 @@ fn resumed<D: Disk>(alloc: Global, disk: &mut D) -> Result<TxnLog, LogErr>
     ensures time { D.moment disk.old ≤ D.moment disk.new }
     ensures cause { LogCause (D.faults disk.old) (D.faults disk.new) (D.blamed disk.new) result }
 {
-    let commits = match counted(alloc, disk) {
+    let commits = match counted(alloc, read) {
         Ok(commits) => commits,
         Err(error) => return Err(error),
     };
-    match Log::resume(alloc, disk, latest()) {
-        Ok(Some(log)) => Ok(TxnLog { log, commits }),
-        // It was there before.
-        Ok(None) => Err(LogErr::Bad(latest(), 0)),
+    match Log::resume(disk, latest(), read) {
+        Ok(log) => Ok(TxnLog { log, commits }),
         Err(error) => Err(error),
     }
 }

@@ -7,6 +7,17 @@ use file_mem::MemDisk;
 use std::alloc::{AllocError, Global};
 use std::test::Fail;
 
+const CLOSED: [u8; 8] = [1, 2, 3, 4, 99, 88, 77, 11];
+
+const HEAD_ITEM: [u8; 25] = [
+    0, 0, 0, 9, 12, 44, 55, 66, 252, 245, 110, 48, 223, 249, 80, 113, 131, 104, 1, 119, 4, 108,
+    111, 103, 49,
+];
+
+const OTHER_ITEM: [u8; 19] = [
+    0, 0, 0, 3, 12, 44, 55, 66, 236, 60, 68, 28, 234, 228, 131, 34, 111, 110, 101,
+];
+
 /// The item of a commit without ops.
 fn item(alloc: Global, version: u64) -> Result<CommitItem, LogErr> {
     let commit = Commit {
@@ -22,6 +33,8 @@ fn commits_are_found_again(rt: HostRuntime) -> Result<(), Fail> {
     let mut disk = MemDisk::new(rt.alloc());
     let mut log = TxnLog::open_latest(rt.alloc(), &mut disk)?;
     assert_eq!(rt; log.commits(), 0);
+    let written = [CLOSED.as_slice(), HEAD_ITEM.as_slice()].concat(rt.alloc())?;
+    assert_eq!(rt; disk.contents(latest()), Some(written.as_slice()));
     let one = item(rt.alloc(), 1)?;
     log.append(&mut disk, &one)?;
     log.append(&mut disk, &one)?;
@@ -33,7 +46,7 @@ fn commits_are_found_again(rt: HostRuntime) -> Result<(), Fail> {
 }
 
 #[test]
-fn a_failed_append_leaves_the_old_commits(rt: HostRuntime) -> Result<(), Fail> {
+fn a_torn_commit_is_gone_once_the_log_is_renewed(rt: HostRuntime) -> Result<(), Fail> {
     let mut disk = MemDisk::new(rt.alloc());
     let mut log = TxnLog::open_latest(rt.alloc(), &mut disk)?;
     let one = item(rt.alloc(), 1)?;
@@ -46,16 +59,10 @@ fn a_failed_append_leaves_the_old_commits(rt: HostRuntime) -> Result<(), Fail> {
     }
     let again = TxnLog::open_latest(rt.alloc(), &mut disk)?;
     assert_eq!(rt; again.commits(), 1);
+    let renewed = [CLOSED.as_slice(), HEAD_ITEM.as_slice(), one.bytes()].concat(rt.alloc())?;
+    assert_eq!(rt; disk.contents(latest()), Some(renewed.as_slice()));
     Ok(())
 }
-
-const CLOSED: [u8; 8] = [1, 2, 3, 4, 99, 88, 77, 11];
-
-const HEAD_ITEM: [u8; 17] = [
-    0, 0, 0, 9, 12, 44, 55, 66, 131, 104, 1, 119, 4, 108, 111, 103, 49,
-];
-
-const OTHER_ITEM: [u8; 11] = [0, 0, 0, 3, 12, 44, 55, 66, 111, 110, 101];
 
 // A disk with a closed log of these two items.
 fn disk_with(alloc: Global, first: &[u8], second: &[u8]) -> Result<MemDisk, AllocError> {
@@ -70,9 +77,9 @@ fn disk_with(alloc: Global, first: &[u8], second: &[u8]) -> Result<MemDisk, Allo
 #[test]
 fn a_log_is_bad_at_its_first_wrong_place(rt: HostRuntime) -> Result<(), Fail> {
     let table: [(&[u8], &[u8], u64); 4] = [
-        (&HEAD_ITEM, &OTHER_ITEM, 25),
+        (&HEAD_ITEM, &OTHER_ITEM, 33),
         (&OTHER_ITEM, &HEAD_ITEM, 8),
-        (&HEAD_ITEM, &OTHER_ITEM[..10], 25),
+        (&HEAD_ITEM, &OTHER_ITEM[..18], 33),
         (&[], &[], 8),
     ];
     for (first, second, wrong) in table {

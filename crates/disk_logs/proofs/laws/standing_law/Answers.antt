@@ -1,8 +1,5 @@
-use Rattle.disk_logs.proofs.Standing.{durable_log, synced_within, stands_leaves}
+use Rattle.disk_logs.proofs.Standing.{synced_within, stands_leaves}
 use Rattle.disk_logs.proofs.laws.standing_law.Goals as goal
-
-pub returns-clause-durable : goal.returns-clause-durable
-returns-clause-durable c = durable_log
 
 pub returns-clause-within : goal.returns-clause-within
 returns-clause-within c = synced_within

@@ -1,5 +1,6 @@
 use Rattle.file_trait.proofs.Images.{reads_image, handed_image}
-use Rattle.file_trait.proofs.Changes.{sync_only, sync_adds_none, sync_dir_only, sync_dir_adds_none, sync_dir_settles, only_partly, old_or_new, file_undone, names_undone}
+use Rattle.file_trait.proofs.Changes.{sync_only, sync_adds_none, sync_failed_adds_none, sync_dir_only, sync_dir_adds_none, sync_dir_settles, old_or_new, file_undone, names_undone}
+use Rattle.file_trait.proofs.Prefixes.{prefix_image}
 use Rattle.file_trait.proofs.laws.image_laws.Goals as goal
 
 pub returns-clause-reads : goal.returns-clause-reads
@@ -24,7 +25,7 @@ pub returns-clause-settles : goal.returns-clause-settles
 returns-clause-settles c = sync_dir_settles
 
 pub returns-clause-file : goal.returns-clause-file
-returns-clause-file c = only_partly
+returns-clause-file c = λ past name op i bytes left. left
 
 pub returns-clause-names : goal.returns-clause-names
 returns-clause-names c = old_or_new
@@ -34,3 +35,9 @@ returns-clause-file_undone c = file_undone
 
 pub returns-clause-names_undone : goal.returns-clause-names_undone
 returns-clause-names_undone c = names_undone
+
+pub returns-clause-sync_failed_adds : goal.returns-clause-sync_failed_adds
+returns-clause-sync_failed_adds c = sync_failed_adds_none
+
+pub returns-clause-prefixes : goal.returns-clause-prefixes
+returns-clause-prefixes c = prefix_image

@@ -6,7 +6,7 @@ use Rattle.mn_run.specs.Seen as seen
 use Rattle.mn_run.specs.Steps.{IsFew, IsFaulted}
 use Rattle.mn_run.proofs.Runs.{Point, read_ends}
 use Rattle.mn_run.proofs.RunDamage.{shows_it, shows_more, over_read, over_serve, over_end, down_more}
-use Rattle.mn_run.proofs.RunLoop.{begun, do_more, do_ends, end_ends, is_do, is_end, goes_do, goes_end, EndedFrom}
+use Rattle.mn_run.proofs.RunLoop.{begun, do_more, do_ends, end_ends, blank_more, is_do, is_blank, is_end, goes_do, goes_blank, goes_end, EndedFrom}
 use Rattle.mn_run.proofs.running.serve_all.Goals as goal
 
 pub lines-init : goal.lines-init
@@ -77,6 +77,32 @@ lines-preserved g c =
       reads = omega (arith, i.reads, asked.ensures.cause.later);
       writes = omega (arith, i.writes, c.in-Ok.ensures.write.later);
       disks = omega (arith, i.disks, c.in-Ok.ensures.later);
+    }
+
+pub lines-preserved-in-Ok-Blank : goal.lines-preserved-in-Ok-Blank
+lines-preserved-in-Ok-Blank g c =
+    let l = c.lines in
+    let ask = c.next_ask.new in
+    let now : Point = record { node = l.node; past = g.D.Disk.past l.disk; faults = g.D.Disk.faults l.disk; out = g.K.Sink.written l.out; marks = l.marks.items } in
+    let script : List ℕ = g.S.Source.left c.args.script.now in
+    let plan = plan_from l.place.lines l.place.commands (lines_of (l.lines ++ g.S.Source.left l.script)) in
+    let later = plan_from ask.place.lines ask.place.commands (lines_of (ask.lines ++ g.S.Source.left ask.script)) in
+    let i = l.invariant in
+    let asked = c.in-Ok-Blank in
+    let same : ask.place.commands ≡ l.place.commands = goes_blank asked.field-0 l.place.lines ask.place.lines l.place.commands ask.place.commands asked.field-0-is asked.ensures.goes in
+    record {
+      so_far = λ told told_in told_out old first began.
+          blank_more script old first plan later l.place.commands ask.place.commands now (i.so_far told told_in told_out old first began)
+          (is_blank asked.field-0 plan later asked.field-0-is (asked.ensures.asks told_in)) same;
+      shown = i.shown;
+      log = i.log;
+      few = subst (λ n. IsFew l.node (n + 1)) (sym same) i.few;
+      down = i.down;
+      within = asked.ensures.within;
+      most = asked.ensures.few;
+      reads = omega (arith, i.reads, asked.ensures.cause.later);
+      writes = i.writes;
+      disks = i.disks;
     }
 
 pub returns-in-Err-serve-clause-ran : goal.returns-in-Err-serve-clause-ran

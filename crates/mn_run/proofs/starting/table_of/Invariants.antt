@@ -9,10 +9,10 @@ abbrev pub invariant-items : goal.invariant-items
 invariant-items l = record {
   rows : List Tree;
   good : AreRows rows;
-  commits : AreItemsOf rows (take l.number l.items);
+  commits : AreItemsOf rows (take l.number l.read.items);
   same : (key : Tree) → records_of key (map tree_of l.table.rows.items) ≡ records_of key (written rows []);
-  within : l.number ≤ length l.items;
+  within : l.number ≤ length l.read.items;
 }
 
 abbrev pub decreases-items : goal.decreases-items
-decreases-items l = length l.items - l.number
+decreases-items l = length l.read.items - l.number

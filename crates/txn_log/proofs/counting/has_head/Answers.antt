@@ -1,9 +1,9 @@
-use Rattle.std.proofs.Common.{rules}
+use Rattle.std.proofs.Common.{sym, ◌∙◌}
 use Rattle.txn_log.proofs.FirstItem.{head_first, no_first}
 use Rattle.txn_log.proofs.counting.has_head.Goals as goal
 
-pub returns-in-Some : goal.returns-in-Some
-returns-in-Some c = head_first _ _ _ (search rules) c.is_head.ensures
+pub returns-then-len-eq0 : goal.returns-then-len-eq0
+returns-then-len-eq0 c = (λ yes. absurd (cc), λ other. no_first c.args.read.now.items (sym c.len.ensures.len ∙ c.if-len-eq0.true))
 
-pub returns-in-None : goal.returns-in-None
-returns-in-None c = (λ yes. absurd (cc), λ other. no_first _ (search rules))
+pub returns : goal.returns
+returns c = head_first c.args.read.now.items _ _ c.content.ensures c.is_head.ensures

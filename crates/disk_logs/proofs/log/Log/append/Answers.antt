@@ -1,43 +1,71 @@
-use Rattle.std.proofs.Common.{◌∙◌, ◌&&◌, ap, subst}
-use Rattle.file_trait.specs.DiskModel.{reads}
+use Rattle.std.proofs.Common.{◌++◌, inl, ap, ◌∙◌}
 use Rattle.file_trait.proofs.Touched.{then_touched, append_touches}
-use Rattle.disk_logs.specs.Logs.{Handle, file_of, HasAppended}
-use Rattle.disk_logs.proofs.Acts.{marked_moments, append_moments, append_stands, wanted_moments}
+use Rattle.disk_logs.specs.Logs.{Handle, file_of}
 use Rattle.disk_logs.proofs.Appends.{appended}
 use Rattle.disk_logs.proofs.Effects.{appended_kept}
+use Rattle.disk_logs.proofs.Handles.{leaves_of, sound_of, more_of, wanted_kept, wanted_moments, appends_stands, appends_moments}
+use Rattle.disk_logs.proofs.Handles.{appends_drafted}
 use Rattle.disk_logs.proofs.log.Log.append.Goals as goal
 
-pub returns-in_err-set_mark-clause-any_moment : goal.returns-in_err-set_mark-clause-any_moment
-returns-in_err-set_mark-clause-any_moment g c all more synced told fit is stands = marked_moments _ all more synced _ _ (c.set_mark.ensures.any_moment all synced told stands)
+pub returns-in_err-open-clause-any_moment : goal.returns-in_err-open-clause-any_moment
+returns-in_err-open-clause-any_moment g c all more synced told fit is stands =
+    leaves_of _ (all ++ more) synced _ _ (more_of _ all synced _ _ (c.open.ensures.any_moment all synced told stands) more)
+
+pub returns-in_err-open-clause-only_old : goal.returns-in_err-open-clause-only_old
+returns-in_err-open-clause-only_old g c all synced told stands wanted =
+    leaves_of _ all synced _ _ (c.open.ensures.any_moment all synced told stands)
+
+pub returns-in_err-open-clause-sound : goal.returns-in_err-open-clause-sound
+returns-in_err-open-clause-sound g c all synced told stands = sound_of _ all synced _ _ (c.open.ensures.any_moment all synced told stands)
 
 pub returns-clause-appended : goal.returns-clause-appended
 returns-clause-appended g c all more told is here =
-    subst (λ set. HasAppended c.told.result c.set_mark.new.self.closed set all more (reads (g.D.Disk.past c.append.new.self) (file_of c.args.self.now)))
-    (c.mark_to_append-closed.ensures ∙ ap (λ (h : Handle). h.draft && h.closed) c.self.view_is)
-    (appended _ _ _ _ _ all more _ _ _ _ (c.self-2.invariant ∙ ap file_of (c.self-2.view_is ∙ c.in_ok-set_mark.ensures.log)) is
-    (ap (λ (h : Handle). h.closed) c.in_ok-set_mark.ensures.log) (c.in_ok-set_mark.ensures.marked all told here) c.told.ensures (c.append.ensures.done told))
+    appended _ _ _ _ _ all more _ _ _ _ (c.self.invariant ∙ ap file_of (c.self.view_is ∙ c.in_ok-open.ensures.log)) is
+    (ap (λ (h : Handle). h.closed) c.in_ok-open.ensures.log)
+    (c.in_ok-open.ensures.marked all told here) c.told.ensures (c.append.ensures.done told)
 
 pub returns-clause-others : goal.returns-clause-others
 returns-clause-others g c told other apart =
-    appended_kept _ _ _ _ _ other (λ is. apart (is ∙ c.self-2.invariant ∙ ap file_of (c.self-2.view_is ∙ c.in_ok-set_mark.ensures.log))) (c.append.ensures.done told)
-    ∙ c.set_mark.ensures.others told other apart
+    appended_kept _ _ _ _ _ other (λ is. apart (is ∙ c.self.invariant ∙ ap file_of (c.self.view_is ∙ c.in_ok-open.ensures.log)))
+    (c.append.ensures.done told) ∙ c.open.ensures.others told other apart
 
 pub returns-clause-touches : goal.returns-clause-touches
 returns-clause-touches g c told =
-    then_touched _ _ _ _ (c.set_mark.ensures.touches told)
-    (append_touches _ _ _ _ _ _ (c.append.ensures.done told) (c.self-2.invariant ∙ ap file_of (c.self-2.view_is ∙ c.in_ok-set_mark.ensures.log)))
+    then_touched _ _ _ _ (c.open.ensures.touches told)
+    (append_touches _ _ _ _ _ _ (c.append.ensures.done told) (c.self.invariant ∙ ap file_of (c.self.view_is ∙ c.in_ok-open.ensures.log)))
 
 pub returns-clause-stands : goal.returns-clause-stands
 returns-clause-stands g c all more synced told fit is stands =
-    append_stands _ _ all more synced _ _ _ _ c.args.self.now c.set_mark.new.self _ (c.self-2.invariant ∙ ap file_of c.self-2.view_is) is fit c.in_ok-set_mark.ensures.log
-    (c.mark_to_append-closed.ensures ∙ ap (λ (h : Handle). h.draft && h.closed) c.self.view_is) (c.in_ok-set_mark.ensures.stands all synced told stands) c.told.ensures (c.append.ensures.done told)
+    appends_stands _ _ c.args.self.now c.open.new.self all more synced _ _ _ (c.self.invariant ∙ ap file_of c.self.view_is) is fit
+    c.in_ok-open.ensures.log
+    (c.in_ok-open.ensures.stands all synced told stands) (c.append.ensures.done told) _ c.told.ensures
+
+pub returns-clause-kept : goal.returns-clause-kept
+returns-clause-kept g c all synced told stands wanted =
+    wanted_kept _ _ c.open.new.self all synced _ _ _ _ c.told.ensures wanted (c.append.ensures.done told)
+    (c.in_ok-open.ensures.stands all synced told stands)
 
 pub returns-clause-any_moment : goal.returns-clause-any_moment
 returns-clause-any_moment g c all more synced told fit is stands =
-    append_moments _ _ all more synced _ _ _ _ c.args.self.now c.set_mark.new.self _ (c.self-2.invariant ∙ ap file_of c.self-2.view_is) is fit c.in_ok-set_mark.ensures.log
-    (c.mark_to_append-closed.ensures ∙ ap (λ (h : Handle). h.draft && h.closed) c.self.view_is) (c.set_mark.ensures.any_moment all synced told stands)
-    (c.in_ok-set_mark.ensures.stands all synced told stands) (c.append.ensures.done told)
+    leaves_of _ (all ++ more) synced _ _
+    (appends_moments _ _ c.args.self.now c.open.new.self all more synced _ _ _ (c.self.invariant ∙ ap file_of c.self.view_is) is fit
+    c.in_ok-open.ensures.log
+    (c.in_ok-open.ensures.stands all synced told stands) (c.append.ensures.done told) _ (c.open.ensures.any_moment all synced told stands))
 
 pub returns-clause-only_old : goal.returns-clause-only_old
 returns-clause-only_old g c all synced told stands wanted =
-    wanted_moments _ _ _ all synced _ c.told.result _ _ _ c.told.ensures wanted (c.append.ensures.done told) (c.set_mark.ensures.any_moment all synced told stands)
+    wanted_moments _ _ _ all synced _ _ _ _ _ c.told.ensures wanted (c.append.ensures.done told)
+    (c.open.ensures.any_moment all synced told stands)
+
+pub returns-clause-sound : goal.returns-clause-sound
+returns-clause-sound g c all synced told stands =
+    sound_of _ (all ++ c.requires.items.0) synced _ _
+    (appends_moments _ _ c.args.self.now c.open.new.self all c.requires.items.0 synced _ _ _
+    (c.self.invariant ∙ ap file_of c.self.view_is) c.requires.items.2 c.requires.items.1 c.in_ok-open.ensures.log
+    (c.in_ok-open.ensures.stands all synced told stands) (c.append.ensures.done told) _ (c.open.ensures.any_moment all synced told stands))
+
+pub returns-clause-drafted : goal.returns-clause-drafted
+returns-clause-drafted g c all more told drafted is draft =
+    appends_drafted _ _ c.args.self.now all more _ _ _ _ _ (c.self.invariant ∙ ap file_of (c.self.view_is ∙ c.in_ok-open.ensures.log))
+    drafted is (c.open.ensures.same told (inl drafted)) draft c.told.ensures
+    (c.append.ensures.done told)

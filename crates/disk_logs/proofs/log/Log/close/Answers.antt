@@ -1,15 +1,59 @@
-use Rattle.disk_logs.proofs.Acts.{closed_touches, then_moments}
+use Rattle.std.proofs.Common.{◌≡◌, true, false, refl, sym, ap, ◌∙◌}
+use Rattle.file_trait.proofs.Moments.{none_done}
+use Rattle.file_trait.proofs.Touched.{then_touched}
+use Rattle.disk_logs.specs.Logs.{Handle, file_of}
+use Rattle.disk_logs.proofs.Appends.{set_touches, set_others}
+use Rattle.disk_logs.proofs.Handles.{stands_safe, closes_kept, closes_moments, closes_sound, closes_durable, closes_stands}
 use Rattle.disk_logs.proofs.log.Log.close.Goals as goal
+
+pub returns-then-self-clause-any_moment : goal.returns-then-self-clause-any_moment
+returns-then-self-clause-any_moment g c items synced told stands =
+    none_done _ _ _ refl (stands_safe _ c.args.self.now items synced stands).0
+
+pub returns-then-self-clause-sound : goal.returns-then-self-clause-sound
+returns-then-self-clause-sound g c items synced told stands = none_done _ _ _ refl (stands_safe _ c.args.self.now items synced stands).1
+
+pub returns-clause-others : goal.returns-clause-others
+returns-clause-others g c told other apart =
+    set_others (file_of c.sync.new.self) true c.set_mark.result (g.D.Disk.past c.sync.new.disk) (g.D.Disk.past c.set_mark.new.disk) other
+    (λ is. apart (is ∙ ap file_of c.sync.ensures.log)) (c.set_mark.ensures.done told)
+    ∙ c.sync.ensures.same told other
 
 pub returns-clause-touches : goal.returns-clause-touches
 returns-clause-touches g c told =
-    closed_touches _ _ _ c.args.self.now c.set_mark.new.self _ c.in_ok-set_mark.ensures.log (c.set_mark.ensures.touches told) (c.sync.ensures.touches told)
+    then_touched _ _ _ _ (c.sync.ensures.touches told)
+    (set_touches _ (file_of c.sync.new.self) true c.set_mark.result _ _ (ap file_of c.sync.ensures.log) (c.set_mark.ensures.done told))
 
 pub returns-clause-stands : goal.returns-clause-stands
 returns-clause-stands g c items synced told stands =
-    c.sync.ensures.stands items synced told (c.in_ok-set_mark.ensures.stands items synced told stands)
+    let was : c.args.self.now.closed ≡ false = sym (ap (λ (h : Handle). h.closed) c.self.view_is) ∙ c.if-self.false in
+    closes_stands c.args.self.now c.sync.new.self items synced _ _ _ c.sync.ensures.log was stands
+    (c.in_ok-sync.ensures.stands items synced told stands) c.set_mark.result (c.set_mark.ensures.done told)
+    (c.in_ok-sync.ensures.durable items synced told stands was) _ c.set_mark.ensures.log
+
+pub returns-clause-durable : goal.returns-clause-durable
+returns-clause-durable g c items synced told stands was =
+    closes_durable c.args.self.now c.sync.new.self items synced _ _ _ c.sync.ensures.log was stands
+    (c.in_ok-sync.ensures.stands items synced told stands) c.set_mark.result (c.set_mark.ensures.done told)
+    (c.in_ok-sync.ensures.durable items synced told stands was)
+
+pub returns-clause-kept : goal.returns-clause-kept
+returns-clause-kept g c items synced told stands wanted =
+    closes_kept c.args.self.now c.sync.new.self items synced _ _ _ c.sync.ensures.log
+    (sym (ap (λ (h : Handle). h.closed) c.self.view_is) ∙ c.if-self.false) stands
+    (c.in_ok-sync.ensures.stands items synced told stands) c.set_mark.result (c.set_mark.ensures.done told) _
+    (c.set_mark.ensures.wanted wanted) wanted
 
 pub returns-clause-any_moment : goal.returns-clause-any_moment
 returns-clause-any_moment g c items synced told stands =
-    then_moments items synced _ _ _ c.args.self.now c.set_mark.new.self _ c.in_ok-set_mark.ensures.log (c.set_mark.ensures.any_moment items synced told stands)
-    (c.sync.ensures.any_moment items synced told (c.in_ok-set_mark.ensures.stands items synced told stands))
+    let was : c.args.self.now.closed ≡ false = sym (ap (λ (h : Handle). h.closed) c.self.view_is) ∙ c.if-self.false in
+    closes_moments c.args.self.now c.sync.new.self items synced _ _ _ c.sync.ensures.log was stands
+    (c.in_ok-sync.ensures.stands items synced told stands) c.set_mark.result (c.set_mark.ensures.done told)
+    (c.in_ok-sync.ensures.durable items synced told stands was) (c.sync.ensures.any_moment items synced told stands)
+
+pub returns-clause-sound : goal.returns-clause-sound
+returns-clause-sound g c items synced told stands =
+    let was : c.args.self.now.closed ≡ false = sym (ap (λ (h : Handle). h.closed) c.self.view_is) ∙ c.if-self.false in
+    closes_sound c.args.self.now c.sync.new.self items synced _ _ _ c.sync.ensures.log was stands
+    (c.in_ok-sync.ensures.stands items synced told stands) c.set_mark.result (c.set_mark.ensures.done told)
+    (c.in_ok-sync.ensures.durable items synced told stands was) (c.sync.ensures.sound items synced told stands)

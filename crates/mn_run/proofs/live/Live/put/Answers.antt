@@ -2,7 +2,7 @@ use Rattle.std.proofs.Common.{map, inl}
 use Rattle.file_trait.specs.DiskModel.{reads}
 use Rattle.term_core.specs.View.{tree_of}
 use Rattle.mn_run.specs.Shown.{commit_for}
-use Rattle.mn_run.proofs.Acts.{still_stands, none_written, none_done_yet, left_as, table_more, written_shows, written_or_not, fronts, fronts_more}
+use Rattle.mn_run.proofs.Acts.{still_stands, none_written, none_done_yet, still_sound_yet, left_as, table_more, written_shows, written_or_not, fronts, fronts_more}
 use Rattle.mn_run.proofs.live.Live.put.Goals as goal
 
 pub returns-in_err-item-clause-left : goal.returns-in_err-item-clause-left
@@ -56,3 +56,15 @@ returns-in-Ok-clause-any_moment g c rows durable told shown =
     let row = tree_of c.args.row in
     fronts_more rows row durable (g.D.Disk.past c.args.disk.now) (g.D.Disk.past c.append.new.disk) shown.good c.requires.row
     (c.append.ensures.any_moment (map commit_for rows) durable (commit_for row) told c.in_ok-item.ensures shown.log)
+
+pub returns-in_err-item-clause-sound : goal.returns-in_err-item-clause-sound
+returns-in_err-item-clause-sound g c rows durable told shown = still_sound_yet c.args.self.now (g.D.Disk.past c.args.disk.now) rows durable shown
+
+pub returns-in_err-reserve-clause-sound : goal.returns-in_err-reserve-clause-sound
+returns-in_err-reserve-clause-sound g c rows durable told shown = still_sound_yet c.args.self.now (g.D.Disk.past c.args.disk.now) rows durable shown
+
+pub returns-in-Err-clause-sound : goal.returns-in-Err-clause-sound
+returns-in-Err-clause-sound g c rows durable told shown = c.append.ensures.sound (map commit_for rows) durable told shown.log
+
+pub returns-in-Ok-clause-sound : goal.returns-in-Ok-clause-sound
+returns-in-Ok-clause-sound g c rows durable told shown = c.append.ensures.sound (map commit_for rows) durable told shown.log

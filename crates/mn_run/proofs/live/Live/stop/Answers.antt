@@ -22,3 +22,6 @@ returns-clause-left g c rows durable told shown =
 pub returns-clause-any_moment : goal.returns-clause-any_moment
 returns-clause-any_moment g c rows durable told shown =
     fronts rows durable (g.D.Disk.past c.args.disk.now) (g.D.Disk.past c.close.new.disk) shown.good (c.close.ensures.any_moment (map commit_for rows) durable told shown.log)
+
+pub returns-clause-sound : goal.returns-clause-sound
+returns-clause-sound g c rows durable told shown = c.close.ensures.sound (map commit_for rows) durable told shown.log

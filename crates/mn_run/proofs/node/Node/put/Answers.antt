@@ -13,7 +13,7 @@ returns-in-Ok-clause-step g c told first machine shown =
     let rows = all_of machine in
     let durable = durable_of machine in
     put_done first before now c.args.self.now c.in-Up.live machine shown c.in-Up.is (tree_of c.args.row) c.requires.row c.put-written.new.self (ok.stands rows durable told live)
-    (ok.any_moment rows durable told live)
+    (ok.any_moment rows durable told live) (ok.sound rows durable told live)
 
 pub returns-in-Err-clause-step : goal.returns-in-Err-clause-step
 returns-in-Err-clause-step g c told first machine shown =
@@ -31,5 +31,6 @@ returns-in-Err-clause-step g c told first machine shown =
       kept = λ is. err.kept rows durable told live (ap (λ e. Err e) is);
       left = err.left rows durable told live;
       moments = err.any_moment rows durable told live;
+      sounds = err.sound rows durable told live;
       old = λ is. err.only_old rows durable told live (ap (λ e. Err e) is);
     })

@@ -7,8 +7,8 @@ pub returns-in-Ok-clause-step : goal.returns-in-Ok-clause-step
 returns-in-Ok-clause-step g c told first machine shown =
     let ok = c.in-Ok.ensures in
     start_done first (g.D.Disk.past c.args.disk.now) (g.D.Disk.past c.start.new.disk) c.args.self.now machine shown c.in_default.not-Up c.in-Ok.live (seen.answer c.started.result) c.started.new.self
-    c.started.ensures.node (λ is. ap seen.answer (c.started.ensures.first is)) (λ base is. ap seen.answer (c.started.ensures.later base is)) (λ rows stands. ok.started told rows stands)
-    (λ rows stands. ok.any_moment told rows stands) (λ at none. ok.meaning told at none)
+    c.started.ensures.node (λ is. ap seen.answer (c.started.ensures.first is)) (λ base is. ap seen.answer (c.started.ensures.later base is)) (λ sound rows stands. ok.started told sound rows stands)
+    (λ rows stands. ok.any_moment told rows stands) (λ sound. ok.sound told sound) (λ at none. ok.meaning told at none)
 
 pub returns-in-Err-clause-step : goal.returns-in-Err-clause-step
 returns-in-Err-clause-step g c told first machine shown =
@@ -16,7 +16,7 @@ returns-in-Err-clause-step g c told first machine shown =
     let left = c.unstarted.ensures in
     start_failed first (g.D.Disk.past c.args.disk.now) (g.D.Disk.past c.start.new.disk) c.args.self.now machine shown c.in_default.not-Up c.in-Err.error (seen.answer c.unstarted.result) c.unstarted.new.self
     left.answer (record { fault = left.fault; memory = left.memory; damage = left.damaged }) (λ name is. err.named name (ap (λ e. Err e) is)) (λ rows stands. err.failed told rows stands)
-    (λ rows stands. err.any_moment told rows stands) (λ name at is. err.damaged told name at (ap (λ e. Err e) is)) (λ at none. err.meaning told at none) (λ at none. err.kept told at none)
+    (λ rows stands. err.any_moment told rows stands) (λ sound. err.sound told sound) (λ name at is. err.damaged told name at (ap (λ e. Err e) is)) (λ at none. err.meaning told at none) (λ at none. err.kept told at none)
 
 pub returns-in-Ok-clause-fault : goal.returns-in-Ok-clause-fault
 returns-in-Ok-clause-fault g c name is = started_fails_not (seen.answer c.started.result) c.started.ensures.answer.0 name _ c.started.ensures.answer.1 is

@@ -12,6 +12,7 @@ returns-in-Ok-clause-step g c told first machine shown =
     let rows = all_of machine in
     let durable = durable_of machine in
     stop_done first before now c.args.self.now c.in-Up.live machine shown c.in-Up.is c.stop-stopped.new.self (ok.stands rows durable told live) (ok.closed rows durable told live) (ok.any_moment rows durable told live)
+    (ok.sound rows durable told live)
 
 pub returns-in-Err-clause-step : goal.returns-in-Err-clause-step
 returns-in-Err-clause-step g c told first machine shown =
@@ -22,4 +23,4 @@ returns-in-Err-clause-step g c told first machine shown =
     let rows = all_of machine in
     let durable = durable_of machine in
     stop_failed first before now c.args.self.now c.in-Up.live machine shown c.in-Up.is c.in-Err.error _ c.stop-stopped.new.self c.failed.new.self c.failed.ensures.answer err.only
-    (record { file = c.failed.ensures.file; memory = c.failed.ensures.memory; named = λ name is. err.named name (ap (λ e. Err e) is); kept = λ is. err.kept rows durable told live (ap (λ e. Err e) is); left = err.left rows durable told live; moments = err.any_moment rows durable told live })
+    (record { file = c.failed.ensures.file; memory = c.failed.ensures.memory; named = λ name is. err.named name (ap (λ e. Err e) is); kept = λ is. err.kept rows durable told live (ap (λ e. Err e) is); left = err.left rows durable told live; moments = err.any_moment rows durable told live; sounds = err.sound rows durable told live })

@@ -12,6 +12,7 @@ returns-in-Ok-clause-step g c told first machine shown =
     let rows = all_of machine in
     let durable = durable_of machine in
     sync_done first before now c.args.self.now c.in-Up.live machine shown c.in-Up.is c.sync-synced.new.self (ok.stands rows durable told live) (ok.any_moment rows durable told live)
+    (ok.sound rows durable told live)
 
 pub returns-in-Err-clause-step : goal.returns-in-Err-clause-step
 returns-in-Err-clause-step g c told first machine shown =
@@ -23,3 +24,4 @@ returns-in-Err-clause-step g c told first machine shown =
     let durable = durable_of machine in
     sync_failed first before now c.args.self.now c.in-Up.live machine shown c.in-Up.is c.in-Err.error _ c.failed.new.self c.failed.ensures.answer err.only c.failed.ensures.file
     (λ name is. err.named name (ap (λ e. Err e) is)) (err.left rows durable told live) (err.any_moment rows durable told live)
+    (err.sound rows durable told live)

@@ -1,6 +1,6 @@
 use Rattle.std.proofs.Common.{◌+◌, Ok, Err, ap, ◌∙◌}
 use Rattle.txn_log.specs.Logs.{LogState, handle}
-use Rattle.txn_log.proofs.Acts.{item_is, touches_log, handle_file, handle_marked, handle_either, append_logs, append_fails, append_moments, appended_stands, kept_stands, same_moments}
+use Rattle.txn_log.proofs.Acts.{item_is, touches_log, handle_file, handle_marked, handle_either, append_logs, append_fails, append_moments, appended_stands, kept_stands, same_moments, log_sound}
 use Rattle.txn_log.proofs.log.TxnLog.append.Goals as goal
 
 pub append-requires-clause-items : goal.append-requires-clause-items
@@ -57,3 +57,15 @@ returns-clause-any_moment g c commits synced commit told item stands =
 pub returns-clause-touches : goal.returns-clause-touches
 returns-clause-touches g c told =
     touches_log (g.D.Disk.past c.args.disk.now) (g.D.Disk.past c.append.new.disk) _ (handle_file c.self.inside.log c.args.self.now (c.self.invariant ∙ ap handle c.self.view_is)) (c.in-Ok.ensures.touches told)
+
+pub returns-in-Err-clause-sound : goal.returns-in-Err-clause-sound
+returns-in-Err-clause-sound g c commits synced told stands =
+    log_sound (g.D.Disk.past c.args.disk.now) (g.D.Disk.past c.append.new.disk) c.self.inside.log c.append.new.self c.args.self.now commits synced
+    (c.self.invariant ∙ ap handle c.self.view_is) stands
+    (λ all least before. c.in-Err.ensures.sound all least told before)
+
+pub returns-clause-sound : goal.returns-clause-sound
+returns-clause-sound g c commits synced told stands =
+    log_sound (g.D.Disk.past c.args.disk.now) (g.D.Disk.past c.append.new.disk) c.self.inside.log c.append.new.self c.args.self.now commits synced
+    (c.self.invariant ∙ ap handle c.self.view_is) stands
+    (λ all least before. c.in-Ok.ensures.sound all least told before)

@@ -1,6 +1,6 @@
 use Rattle.std.proofs.Common.{true, ap, ◌∙◌}
 use Rattle.txn_log.specs.Logs.{LogState, handle}
-use Rattle.txn_log.proofs.Acts.{on_ok, touches_log, handle_file, handle_marked, handle_same, same_moments, close_logs, close_fails, kept_stands, when_synced}
+use Rattle.txn_log.proofs.Acts.{on_ok, touches_log, handle_file, handle_marked, handle_same, same_moments, log_sound, log_durable, close_logs, close_fails, kept_stands, when_synced}
 use Rattle.txn_log.proofs.log.TxnLog.close.Goals as goal
 
 pub returns-clause-wanted : goal.returns-clause-wanted
@@ -33,3 +33,15 @@ returns-clause-any_moment g c commits synced told stands =
 pub returns-clause-touches : goal.returns-clause-touches
 returns-clause-touches g c told =
     touches_log (g.D.Disk.past c.args.disk.now) (g.D.Disk.past c.close.new.disk) _ (handle_file c.self.inside.log c.args.self.now (c.self.invariant ∙ ap handle c.self.view_is)) (c.close.ensures.touches told)
+
+pub returns-clause-sound : goal.returns-clause-sound
+returns-clause-sound g c commits synced told stands =
+    log_sound (g.D.Disk.past c.args.disk.now) (g.D.Disk.past c.close.new.disk) c.self.inside.log c.close.new.self c.args.self.now commits synced
+    (c.self.invariant ∙ ap handle c.self.view_is) stands
+    (λ all least before. c.close.ensures.sound all least told before)
+
+pub returns-clause-durable : goal.returns-clause-durable
+returns-clause-durable g c commits synced told stands is_open =
+    log_durable (g.D.Disk.past c.args.disk.now) (g.D.Disk.past c.close.new.disk) c.self.inside.log c.close.new.self c.args.self.now commits synced
+    (c.self.invariant ∙ ap handle c.self.view_is) stands c.close.result is_open
+    (λ all least before still. c.close.ensures.durable all least told before still)

@@ -1,6 +1,6 @@
 use Rattle.std.proofs.Common.{ap, ◌∙◌}
 use Rattle.txn_log.specs.Logs.{LogState, handle}
-use Rattle.txn_log.proofs.Acts.{any_ok, touches_log, handle_file, handle_same, same_moments, sync_fails, when_synced}
+use Rattle.txn_log.proofs.Acts.{any_ok, touches_log, handle_file, handle_same, same_moments, log_sound, sync_fails, when_synced}
 use Rattle.txn_log.proofs.log.TxnLog.sync.Goals as goal
 
 pub returns-clause-stands : goal.returns-clause-stands
@@ -25,3 +25,9 @@ returns-clause-touches g c told =
 
 pub returns-clause-named : goal.returns-clause-named
 returns-clause-named g c name is = c.sync.ensures.named name is ∙ handle_file c.self.inside.log c.args.self.now (c.self.invariant ∙ ap handle c.self.view_is)
+
+pub returns-clause-sound : goal.returns-clause-sound
+returns-clause-sound g c commits synced told stands =
+    log_sound (g.D.Disk.past c.args.disk.now) (g.D.Disk.past c.sync.new.disk) c.self.inside.log c.sync.new.self c.args.self.now commits synced
+    (c.self.invariant ∙ ap handle c.self.view_is) stands
+    (λ all least before. c.sync.ensures.sound all least told before)

@@ -1,9 +1,0 @@
-use Rattle.std.proofs.Common.{rules}
-use Rattle.mn_run.proofs.Loading.{head_first, no_first}
-use Rattle.mn_run.proofs.starting.has_head.Goals as goal
-
-pub returns-in-Some : goal.returns-in-Some
-returns-in-Some c = head_first _ _ _ (search rules) c.is_head.ensures
-
-pub returns-in-None : goal.returns-in-None
-returns-in-None c = (λ yes. absurd (cc), λ other. no_first _ (search rules))
