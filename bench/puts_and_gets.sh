@@ -1,39 +1,57 @@
 #!/bin/sh
-# How many lines a second the program takes, beside how many bare appends of 60 bytes the machine makes: 100,000 puts
-# over 1,000 keys and as many gets.
+# How many lines a second the program takes, beside how many bare appends of 60 bytes the machine makes: 200,000 puts over ten keys and
+# then as many gets, and 100,000 puts over 1,000 keys with as many gets.
 . "$(dirname -- "$0")/prepare.sh"
 needs python3
 built
-mkdir "$dir/data"
 
 python3 - "$here/../mnesia_cli" "$dir" <<'PY'
 import os, subprocess, sys, time
 
 program, dir = sys.argv[1:]
-puts, keys = 100_000, 1_000
-lines = [f"put t {{t,{n % keys},{n}}}\n" for n in range(puts)] + [f"get t {n % keys}\n" for n in range(puts)]
-script = os.path.join(dir, "script")
-replies = os.path.join(dir, "replies")
-with open(script, "w") as file:
-    file.writelines(lines)
 
-with open(script) as source, open(replies, "w") as out:
-    start = time.perf_counter()
-    run = subprocess.run([program, os.path.join(dir, "data")], stdin=source, stdout=out)
-    run_seconds = time.perf_counter() - start
-with open(replies) as file:
-    answered = sum(1 for _ in file)
-if run.returncode != 0 or answered < len(lines):
-    sys.exit(f"the run ended with status {run.returncode} and {answered} replies to {len(lines)} commands")
+
+def seconds(name, lines):
+    """How long the program takes for these lines, on a directory of this name."""
+    script = os.path.join(dir, "script")
+    replies = os.path.join(dir, "replies")
+    os.makedirs(os.path.join(dir, name), exist_ok=True)
+    with open(script, "w") as file:
+        file.writelines(lines)
+    with open(script) as source, open(replies, "w") as out:
+        start = time.perf_counter()
+        run = subprocess.run([program, os.path.join(dir, name)], stdin=source, stdout=out)
+        taken = time.perf_counter() - start
+    with open(replies) as file:
+        answered = sum(1 for _ in file)
+    if run.returncode != 0 or answered < len(lines):
+        sys.exit(f"the run ended with status {run.returncode} and {answered} replies to {len(lines)} commands")
+    return taken
+
+
+def puts(count, keys):
+    return [f"put t {{t,{n % keys},{n}}}\n" for n in range(count)]
+
+
+def gets(count, keys):
+    return [f"get t {n % keys}\n" for n in range(count)]
+
 
 file = os.open(os.path.join(dir, "appends"), os.O_WRONLY | os.O_CREAT | os.O_APPEND)
 start = time.perf_counter()
-for _ in lines:
+for _ in range(200_000):
     os.write(file, b"x" * 60)
-append_seconds = time.perf_counter() - start
+bare = 200_000 / (time.perf_counter() - start)
 os.close(file)
+print(f"bare appends: {bare:,.0f} a second")
 
-print(f"puts and gets: {len(lines) / run_seconds:,.0f} lines a second")
-print(f"bare appends: {len(lines) / append_seconds:,.0f} a second")
-print(f"ratio: {append_seconds / run_seconds:.2f}")
+
+def tell(what, lines, taken):
+    print(f"{what}: {lines / taken:,.0f} lines a second, ratio {lines / taken / bare:.2f}")
+
+
+tell("puts over ten keys", 200_000, seconds("ten", puts(200_000, 10)))
+seconds("few", puts(10, 10))
+tell("gets over ten keys", 200_000, seconds("few", gets(200_000, 10)))
+tell("puts and gets over 1,000 keys", 200_000, seconds("many", puts(100_000, 1000) + gets(100_000, 1000)))
 PY

@@ -1,4 +1,5 @@
 pub mod Commits
+pub mod Database
 pub mod Definitions
 pub mod Names
 pub mod Ops

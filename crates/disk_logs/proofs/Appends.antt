@@ -3,8 +3,8 @@ use Rattle.file_trait.specs.Touched.{Touches}
 use Rattle.file_trait.proofs.Touched.{concerns_spares, kept, untouched, touched, then_touched, sync_touches}
 use Rattle.file_trait.proofs.Moments.{at_end}
 use Rattle.disk_logs.specs.declared.error.LogErr.TheVariants.{File, Bad, TooLong}
-use Rattle.std.proofs.Common.{◌≡◌, ◌≢◌, inl, inr, ℕ, ◌≤◌, ◌<◌, Bool, true, false, IsTrue, if◌then◌else◌, List, [], ◌∷◌, ◌++◌, length, take}
-use Rattle.std.proofs.Common.{None, Some, Result, Ok, Err, refl, sym, ap, ◌∙◌, subst, arith, length-append}
+use Rattle.std.proofs.Common.{◌≡◌, ◌≢◌, inl, inr, ℕ, ◌≤◌, ◌<◌, Bool, true, false, IsTrue, if◌then◌else◌, List, [], ◌∷◌, ◌++◌, length, take, Option}
+use Rattle.std.proofs.Common.{None, Some, Result, Ok, Err, IsErrOf, refl, sym, ap, ◌∙◌, subst, arith, length-append}
 use Rattle.std.proofs.lemmas.List.{append-nil}
 use Rattle.file_trait.specs.declared.disk.DiskErr.{DiskErr}
 use Rattle.file_trait.specs.declared.disk.DiskErr.TheVariants.{Failed, Memory}
@@ -15,7 +15,7 @@ use Rattle.file_trait.proofs.Files.{file_changed, reads_other, reads_rename}
 use Rattle.disk_logs.specs.declared.error.LogErr.{LogErr}
 use Rattle.disk_logs.specs.Errors.{told}
 use Rattle.log_items.specs.Items.{wire, log_bytes}
-use Rattle.disk_logs.specs.Logs.{Handle, draft_name, file_of, IsLog, HasAppended, mark_bytes, SetsMark, IsMoved}
+use Rattle.disk_logs.specs.Logs.{Handle, draft_name, file_of, IsLog, HasAppended, HasMarked, mark_bytes, SetsMark, IsMoved}
 use Rattle.log_items.proofs.ItemLemmas.{log_bytes-append}
 use Rattle.disk_logs.proofs.Effects.{done_ok, synced_dir_kept}
 
@@ -124,6 +124,22 @@ appended file name bytes closed closed_now all more r t old new same is set here
     go (Err Failed) (inl now) = nothing now
     go (Err Failed) (inr (k, le, now)) = front k le now
     go (Err Memory) now = ap (λ p. reads p file) now ∙ at_file
+
+-- where the log was not opened nothing was appended
+pub not_opened : (r t : Result Unit LogErr) (e f : LogErr) (was closed_now set : Bool) (all more : List (List ℕ)) (file : Option (List ℕ))
+    → t ≡ Err f → f ≡ e → r ≡ Err e → (IsErrOf r LogErr.Memory → closed_now ≡ was) → HasMarked r was set all file
+    → HasAppended t closed_now set all more file
+not_opened r t e f was closed_now set all more file is same failed wanted marked =
+    subst (λ a. HasAppended a closed_now set all more file) (sym (is ∙ ap (λ x. Err x) same))
+    (go e (λ memory. wanted (failed ∙ ap (λ x. Err x) memory)) (subst (λ a. HasMarked a was set all file) failed marked))
+  where
+    go : (e : LogErr) → (e ≡ LogErr.Memory → closed_now ≡ was) → HasMarked {T = Unit} (Err e) was set all file
+        → HasAppended {T = Unit} (Err e) closed_now set all more file
+    go (File name) memory (b, here) =
+        (b, 0, omega arith, λ some. absurd (omega (arith, some)), here ∙ ap (λ b. Some b) (sym (append-nil (log_bytes b all))))
+    go (Bad name at) memory never = never
+    go TooLong memory never = never
+    go LogErr.Memory memory here = here ∙ ap (λ b. Some (log_bytes b all)) (sym (memory refl))
 
 -- ---- publishing
 

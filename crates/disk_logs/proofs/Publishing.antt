@@ -20,7 +20,8 @@ use Rattle.file_trait.proofs.Touched.{then_touched, touched, untouched, done_tou
 use Rattle.log_items.proofs.ItemLemmas.{length-item_bytes}
 use Rattle.log_items.proofs.Unique.{same_closed}
 use Rattle.disk_logs.specs.declared.error.LogErr.{LogErr}
-use Rattle.disk_logs.specs.Errors.{told}
+use Rattle.disk_logs.specs.declared.error.LogErr.TheVariants.{File}
+use Rattle.disk_logs.specs.Errors.{told, LogCause}
 use Rattle.disk_logs.proofs.Effects.{done_ok, told_ok}
 use Rattle.disk_logs.proofs.Sound.{open_sound, spared_sound}
 use Rattle.disk_logs.proofs.Standing.{grew_append, grew_same, exact_stands, sure_changed}
@@ -394,6 +395,16 @@ pub same_error : {S T : Type 0} (r : Result S LogErr) (t : Result T LogErr) (e f
 same_error r t e f error is same was wanted =
     let both : Err f ≡ Err error = sym is ∙ wanted in
     let last : f ≡ error = cc both in was ∙ ap (λ x. Err x) (sym same ∙ last)
+
+-- and so is its cause
+pub same_cause : {S T : Type 0} (faults faults_now : ℕ) (blamed : List (List ℕ)) (r : Result S LogErr) (t : Result T LogErr) (e f : LogErr)
+    → t ≡ Err f → f ≡ e → r ≡ Err e → LogCause faults faults_now blamed r → LogCause faults faults_now blamed t
+same_cause faults faults_now blamed r t e f is same was cause = record {
+  later = cause.later;
+  failed = λ name failed. cause.failed name (same_error r t e f (File name) is same was failed);
+  blames = λ name failed. cause.blames name (same_error r t e f (File name) is same was failed);
+  uncounted = λ none. cause.uncounted (λ name failed. none name (same_error t r e e (File name) was refl (is ∙ ap (λ x. Err x) same) failed));
+}
 
 -- where memory was wanting for the rename, no name was touched
 pub wanted_touches : (at to : List ℕ) (r1 r2 : Result Unit DiskErr) (t1 t2 : Result Unit LogErr) (x : Unit {0}) (old mid new : Past) → t1 ≡ told at r1 → t1 ≡ Ok x → Synced at r1 old mid → t2 ≡ told at r2

@@ -1,5 +1,5 @@
 -- What was read of a file.
-use Rattle.std.proofs.Common.{◌≡◌, ◌⊎◌, inl, inr, ℕ, zero, suc, ◌+◌, ◌*◌, ◌-◌, ◌<◌, ◌≤◌, not, Bool, true, false, List, [], ◌∷◌, ◌++◌, length, take, drop, min, map, slice_get, get_or, Option, None, Some, option_map, Result, Ok, Err, IfOk, IsErrOf, refl, sym, ap, ◌∙◌, subst, arith, append_assoc, length-append, length-drop}
+use Rattle.std.proofs.Common.{◌≡◌, inl, inr, ℕ, zero, suc, ◌+◌, ◌*◌, ◌-◌, ◌<◌, ◌≤◌, not, Bool, true, false, List, [], ◌∷◌, ◌++◌, length, take, drop, min, map, slice_get, get_or, Option, None, Some, option_map, Result, Ok, Err, IfOk, IsErrOf, refl, sym, ap, ◌∙◌, subst, arith, append_assoc, length-append, length-drop}
 use Rattle.std.proofs.lemmas.Bool.{cases_lt}
 use Rattle.std.proofs.lemmas.List.{append-nil, take_at, drop_at, take-append-drop, take-append-le, take_all, length-take, length-take-le}
 use Rattle.std.proofs.lemmas.List.{length-map}
@@ -13,9 +13,9 @@ use Rattle.disk_logs.specs.Errors.{told}
 use Rattle.disk_logs.specs.Logs.{FileRead, IsRead, HasRead}
 use Rattle.log_items.specs.declared.spans.Span.{Span}
 use Rattle.log_items.specs.declared.spans.Scan.{Scan}
-use Rattle.log_items.specs.Items.{head_bytes, header, item_bytes, wire, log_bytes, StartsWith, IsEnd, IsFile, HasItems}
-use Rattle.log_items.specs.Scan.{IsScan, IsBadAt, IsBadItemAt, span_of, spans_from, content_at}
-use Rattle.log_items.proofs.ItemLemmas.{length-header, length-item_bytes, long as log_long, nothing_starts_none, same_front, wire-append}
+use Rattle.log_items.specs.Items.{head_bytes, item_bytes, wire, log_bytes, StartsWith, IsEnd, IsFile}
+use Rattle.log_items.specs.Scan.{IsScan, IsBadAt, span_of, spans_from, content_at}
+use Rattle.log_items.proofs.ItemLemmas.{length-header, length-item_bytes, long as log_long, nothing_starts_none}
 use Rattle.log_items.proofs.Places.{contents_of_file}
 use Rattle.disk_logs.proofs.Effects.{told_ok}
 

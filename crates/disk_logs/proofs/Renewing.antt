@@ -1,5 +1,5 @@
 -- A log that was left open is written anew, at each moment.
-use Rattle.std.proofs.Common.{◌≡◌, ◌≢◌, ◌⊎◌, inl, inr, ℕ, not, Bool, true, false, List, [], ◌∷◌, ◌++◌, length, Option, Some, option_map, refl, sym, ap, ◌∙◌, subst}
+use Rattle.std.proofs.Common.{◌≡◌, ◌⊎◌, inl, inr, ℕ, not, Bool, true, false, List, [], ◌∷◌, ◌++◌, length, Some, option_map, refl, sym, ap, ◌∙◌, subst}
 use Rattle.std.proofs.lemmas.List.{append-nil}
 use Rattle.file_trait.specs.DiskModel.{Past, did, DiskOp, to_file, to_dir, create, rename, remove, sync, sync_failed, sync_dir, Spares, content, reads, IsSettled}
 use Rattle.file_trait.specs.Calls.{Has}
@@ -10,7 +10,7 @@ use Rattle.file_trait.proofs.Moments.{then_done, weaker, at_end}
 use Rattle.file_trait.proofs.Touched.{concerns_spares, kept, then_touched}
 use Rattle.log_items.specs.Items.{log_bytes, AreContents, IsFile, HasItems}
 use Rattle.log_items.proofs.Unique.{written}
-use Rattle.disk_logs.specs.Crash.{LogStands, Stands, DraftStands, IsSound, OldOrWhole, OldOrItems}
+use Rattle.disk_logs.specs.Crash.{Stands, DraftStands, IsSound, OldOrWhole, OldOrItems}
 use Rattle.disk_logs.specs.Logs.{Handle, draft_name, FileRead, IsRead, IsKept, IsMoved}
 use Rattle.disk_logs.proofs.Appends.{draft_apart}
 use Rattle.disk_logs.proofs.Drafts.{others_read}

@@ -28,8 +28,10 @@ OnlyFileOrMemory (Err (Bad name at)) = ⊥
 OnlyFileOrMemory (Err TooLong) = ⊥
 OnlyFileOrMemory (Err Memory) = Unit {0}
 
--- The count of faults never falls. A file is named only where it rose, and where the call that last failed was given names it is one of them.
+-- The count of faults never falls. A file is named only where it rose, and where the call that last failed was given
+-- names it is one of them. Where no file is named the count is as it was.
 pub record LogCause {T : Type 0} (faults faults_now : ℕ) (blamed_now : List (List ℕ)) (result : Result T LogErr) : Type 0 where
   pub later : faults ≤ faults_now
   pub failed : (name : List ℕ) → IsErrOf result (File name) → Rose faults faults_now
   pub blames : (name : List ℕ) → IsErrOf result (File name) → (blamed_now ≡ []) ⊎ Contains blamed_now name
+  pub uncounted : ((name : List ℕ) → IsErrOf result (File name) → ⊥) → faults_now ≡ faults

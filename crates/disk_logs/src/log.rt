@@ -1,6 +1,6 @@
 //! A log over a disk.
 
-ghost use Rattle.std.specs.Prelude.{◌≡◌, ◌≢◌, ◌⊎◌, ℕ, ◌≤◌, ◌&&◌, Bool, true, false, not, List, [], ◌∷◌, ◌++◌, ◌+◌, ◌<◌, ◌^◌, ◌↔◌, length, take, Some, IsTrue, IfOk, IfErr, OnOk, OnErr, IsErrOf};
+ghost use Rattle.std.specs.Prelude.{◌≡◌, ◌≢◌, ◌⊎◌, ℕ, ◌≤◌, ◌&&◌, Bool, true, false, not, List, [], ◌∷◌, ◌++◌, ◌+◌, ◌<◌, ◌^◌, ◌↔◌, length, take, Some, Ok, IsTrue, IsOk, IfOk, IfErr, OnOk, OnErr, IsErrOf};
 ghost use Rattle.file_trait.specs.DiskModel.{reads, IsSettled};
 ghost use Rattle.file_trait.specs.Calls.{IsThere, IsAbsent, Has, IsDurable, IsDirDurable};
 ghost use Rattle.file_trait.specs.Moments.{Moments};
@@ -187,11 +187,12 @@ impl Log {
     }
 
     /// Closes the log where its mark does not say so: it is made durable, marked closed, and made durable again, so that a closed
-    /// mark stands over durable items alone.
+    /// mark stands over durable items alone. Where it says closed this cannot fail, and nothing is done.
     pub fn close<D: Disk>(&mut self, disk: &mut D) -> Result<(), LogErr>
         requires { IsTrue D.tells → IsLog (D.past disk.old) self.old }
         ensures log { OnOk result (self.new ≡ with_mark true self.old) }
         ensures err { OnErr result ((self.new ≡ self.old) ⊎ (self.new ≡ with_mark true self.old)) }
+        ensures nothing { self.old.closed ≡ true → (result ≡ Ok tt) × (disk.new ≡ disk.old) }
         ensures wanted { IsErrOf result LogErr.Memory → self.new ≡ self.old }
         ensures closed { (all : List (List ℕ)) → IsTrue D.tells → reads (D.past disk.old) (file_of self.old) ≡ Some (log_bytes self.old.closed all)
             → HasMarked result self.old.closed true all (reads (D.past disk.new) (file_of self.old)) }
@@ -222,9 +223,9 @@ impl Log {
         self.set_mark(disk, true)
     }
 
-    /// The log whose file was read so. A file whose mark says closed is trusted as it is, and nothing is done to it. One whose mark
-    /// says open is renewed: its whole items are written into a draft under a closed head, which is published. No earlier sync of the
-    /// old file is trusted, and nothing of it is changed.
+    /// The log whose file was read so. A file whose mark says closed is trusted as it is: this cannot fail, and nothing is done. One
+    /// whose mark says open is renewed: its whole items are written into a draft under a closed head, which is published. No earlier
+    /// sync of the old file is trusted, and nothing of it is changed.
     pub fn resume<D: Disk>(disk: &mut D, name: FileName, read: &LogFile) -> Result<Log, LogErr>
         requires short { length name ≤ 77 }
         requires valid { IsName name }
@@ -234,7 +235,7 @@ impl Log {
         // After an error the name has the old file or the new one, with the same items.
         ensures items { IsTrue D.tells → OnOk result (reads (D.past disk.new) name ≡ Some (log_bytes true read.now.items)) }
         ensures kept { IsTrue D.tells → OnErr result (Has (D.past disk.new) name (λ left. HasItems left read.now.items)) }
-        ensures trusted { IsTrue D.tells → read.now.was_open ≡ false → D.past disk.new ≡ D.past disk.old }
+        ensures trusted { read.now.was_open ≡ false → IsOk result × (disk.new ≡ disk.old) }
         ensures others { IsTrue D.tells → (other : List ℕ) → other ≢ name → other ≢ name_of_draft name → reads (D.past disk.new) other ≡ reads (D.past disk.old) other }
         ensures touches { IsTrue D.tells → Touches (λ n. (n ≡ name) ⊎ (n ≡ name_of_draft name)) (D.past disk.old) (D.past disk.new) }
         ensures wanted { IsTrue D.tells → IsErrOf result LogErr.Memory → Touches (λ n. n ≡ name_of_draft name) (D.past disk.old) (D.past disk.new) }

@@ -4,7 +4,7 @@ use Rattle.std.specs.Prelude.{if◌then◌else◌}
 use Rattle.std.proofs.lemmas.Bool.Decides.{nat_tests}
 use Rattle.mn_run.specs.Lines.{lines_of, onto}
 use Rattle.mn_run.specs.declared.lines.LineErr.{LineErr}
-use Rattle.mn_run.specs.declared.lines.LineErr.TheVariants.{Failed, TooLong, Memory}
+use Rattle.mn_run.specs.declared.lines.LineErr.TheVariants.{Failed, Unwritten, TooLong, Memory}
 use Rattle.mn_run.specs.declared.lines.TheConstants.{MOST_LINE}
 use Rattle.mn_run.specs.Reading.{has_no_end, Ended, Open, Over, Grows, Refills, IsFilled, FirstLine}
 
@@ -35,10 +35,12 @@ begins_with x [] = record { more = []; later = []; first = refl }
 begins_with x (line ∷ lines) = record { more = line; later = lines; first = refl }
 
 -- a byte that is no end
-not_end : (x : ℕ) (line rest : List ℕ) → has_no_end (x ∷ line) ≡ true → (lines_of (x ∷ rest) ≡ onto x (lines_of rest)) × (has_no_end line ≡ true)
+not_end : (x : ℕ) (line rest : List ℕ) → has_no_end (x ∷ line) ≡ true
+    → (lines_of (x ∷ rest) ≡ onto x (lines_of rest)) × (has_no_end line ≡ true)
 not_end x line rest h = by_test (x == 10) h
   where
-    by_test : (b : Bool) → (if b then false else has_no_end line) ≡ true → ((if b then [] ∷ lines_of rest else onto x (lines_of rest)) ≡ onto x (lines_of rest)) × (has_no_end line ≡ true)
+    by_test : (b : Bool) → (if b then false else has_no_end line) ≡ true
+        → ((if b then [] ∷ lines_of rest else onto x (lines_of rest)) ≡ onto x (lines_of rest)) × (has_no_end line ≡ true)
     by_test true k = absurd (cc)
     by_test false k = (refl, k)
 
@@ -47,25 +49,33 @@ lines_begun [] rest h k = absurd (omega arith)
 lines_begun (x ∷ []) rest h k = subst (Begins (x ∷ [])) (sym (not_end x [] rest h).0) (begins_with x (lines_of rest))
 lines_begun (x ∷ y ∷ line) rest h k =
     let e = not_end x (y ∷ line) (y ∷ line ++ rest) h in
-    subst (Begins (x ∷ y ∷ line)) (sym e.0) (begins_onto x (y ∷ line) (lines_of (y ∷ line ++ rest)) (lines_begun (y ∷ line) rest e.1 (omega arith)))
+    subst (Begins (x ∷ y ∷ line)) (sym e.0)
+    (begins_onto x (y ∷ line) (lines_of (y ∷ line ++ rest)) (lines_begun (y ∷ line) rest e.1 (omega arith)))
 
 -- ---- what has been read of the script, and what is left of it
 
-pub ended : (start begun line held new left : List ℕ) → start ≡ begun ++ (held ++ left) → has_no_end begun ≡ true → Ended begun line held new → lines_of start ≡ line ∷ lines_of (new ++ left)
+pub ended : (start begun line held new left : List ℕ) → start ≡ begun ++ (held ++ left) → has_no_end begun ≡ true
+    → Ended begun line held new → lines_of start ≡ line ∷ lines_of (new ++ left)
 ended start begun line held new left whole none h =
     let e : start ≡ line ++ 10 ∷ (new ++ left) =
-    whole ∙ ap (λ xs. begun ++ (xs ++ left)) h.rest ∙ ap (λ xs. begun ++ xs) (append_assoc h.part (10 ∷ new) left) ∙ sym (append_assoc begun h.part (10 ∷ (new ++ left))) ∙ ap (λ xs. xs ++ 10 ∷ (new ++ left)) (sym h.line) in
+    whole ∙ ap (λ xs. begun ++ (xs ++ left)) h.rest ∙ ap (λ xs. begun ++ xs) (append_assoc h.part (10 ∷ new) left)
+    ∙ sym (append_assoc begun h.part (10 ∷ (new ++ left))) ∙ ap (λ xs. xs ++ 10 ∷ (new ++ left)) (sym h.line) in
     ap lines_of e ∙ lines_first line (new ++ left) (subst (λ xs. has_no_end xs ≡ true) (sym h.line) (none-append begun h.part none h.none))
 
-pub over : (start begun held left : List ℕ) → start ≡ begun ++ (held ++ left) → has_no_end begun ≡ true → Over begun held → (first : List ℕ) × (later : List (List ℕ)) × (lines_of start ≡ first ∷ later) × (MOST_LINE < length first)
+pub over : (start begun held left : List ℕ) → start ≡ begun ++ (held ++ left) → has_no_end begun ≡ true → Over begun held
+    → (first : List ℕ) × (later : List (List ℕ)) × (lines_of start ≡ first ∷ later) × (MOST_LINE < length first)
 over start begun held left whole none h =
     let e : start ≡ (begun ++ h.part) ++ (h.rest ++ left) =
-    whole ∙ ap (λ xs. begun ++ (xs ++ left)) h.whole ∙ ap (λ xs. begun ++ xs) (append_assoc h.part h.rest left) ∙ sym (append_assoc begun h.part (h.rest ++ left)) in
+    whole ∙ ap (λ xs. begun ++ (xs ++ left)) h.whole ∙ ap (λ xs. begun ++ xs) (append_assoc h.part h.rest left)
+    ∙ sym (append_assoc begun h.part (h.rest ++ left)) in
     let long : MOST_LINE < length (begun ++ h.part) = h.long in
-    let b : Begins (begun ++ h.part) (lines_of ((begun ++ h.part) ++ (h.rest ++ left))) = lines_begun (begun ++ h.part) (h.rest ++ left) (none-append begun h.part none h.none) (omega (arith, long)) in
+    let b : Begins (begun ++ h.part) (lines_of ((begun ++ h.part) ++ (h.rest ++ left))) =
+    lines_begun (begun ++ h.part) (h.rest ++ left) (none-append begun h.part none h.none) (omega (arith, long))
+    in
     ((begun ++ h.part) ++ b.more, b.later, ap lines_of e ∙ b.first, omega (arith, long, length-append (begun ++ h.part) b.more))
 
-pub more_read : (start begun line held mid new left now : List ℕ) → start ≡ begun ++ (held ++ left) → Open begun line held mid → left ≡ new ++ now → start ≡ line ++ (new ++ now)
+pub more_read : (start begun line held mid new left now : List ℕ) → start ≡ begun ++ (held ++ left) → Open begun line held mid
+    → left ≡ new ++ now → start ≡ line ++ (new ++ now)
 more_read start begun line held mid new left now whole h read =
     whole ∙ sym (append_assoc begun held left) ∙ ap (λ xs. xs ++ left) (sym h.line) ∙ ap (λ xs. line ++ xs) read
 
@@ -79,12 +89,18 @@ last_line (x ∷ line) k =
     subst (λ b. FirstLine (Ok (not b)) (x ∷ line) (x ∷ line) []) (sym some) (lines_last (x ∷ line) k (omega arith))
 
 -- the script ends, with a last line or without
-pub at_end : (empty : Bool) (start begun line held mid new left now : List ℕ) → empty ≡ (length line == 0) → start ≡ begun ++ (held ++ left) → has_no_end begun ≡ true → Open begun line held mid → new ≡ [] → (left ≡ []) × (now ≡ [])
+pub at_end : (empty : Bool) (start begun line held mid new left now : List ℕ) → empty ≡ (length line == 0) → start ≡ begun ++ (held ++ left)
+    → has_no_end begun ≡ true → Open begun line held mid → new ≡ [] → (left ≡ []) × (now ≡ [])
     → FirstLine (Ok (not empty)) line start (new ++ now)
 at_end empty start begun line held mid new left now is whole none h filled read =
     let e : start ≡ line = more_read start begun line held mid [] left [] whole h read.0 ∙ append-nil line in
     let f : new ++ now ≡ [] = ap (λ xs. xs ++ now) filled ∙ read.1 in
-    subst (λ b. FirstLine (Ok (not b)) line start (new ++ now)) (sym is) (subst (λ xs. FirstLine (Ok (not (length line == 0))) line xs (new ++ now)) (sym e) (subst (λ xs. FirstLine (Ok (not (length line == 0))) line line xs) (sym f) (last_line line (none_more begun line held mid none h))))
+    let last = last_line line (none_more begun line held mid none h) in
+    let at_none : FirstLine (Ok (not (length line == 0))) line line (new ++ now) =
+    subst (λ xs. FirstLine (Ok (not (length line == 0))) line line xs) (sym f) last
+    in
+    subst (λ b. FirstLine (Ok (not b)) line start (new ++ now)) (sym is)
+    (subst (λ xs. FirstLine (Ok (not (length line == 0))) line xs (new ++ now)) (sym e) at_none)
 
 -- ---- which answer it was
 
@@ -104,10 +120,12 @@ pub is_all : (b : Bool) (new left now : List ℕ) → b ≡ false → Refills (O
 is_all true new left now e h = absurd (cc)
 is_all false new left now e h = h
 
-pub not_taken : (e : LineErr) (start begun line line' held new left : List ℕ) → start ≡ begun ++ (held ++ left) → has_no_end begun ≡ true → Grows (Err e) begun line' held new → FirstLine (Err e) line start (new ++ left)
+pub not_taken : (e : LineErr) (start begun line line' held new left : List ℕ) → start ≡ begun ++ (held ++ left) → has_no_end begun ≡ true
+    → Grows (Err e) begun line' held new → FirstLine (Err e) line start (new ++ left)
 not_taken TooLong start begun line line' held new left whole none h = over start begun held left whole none h
 not_taken Memory start begun line line' held new left whole none h = tt
 not_taken Failed start begun line line' held new left whole none h = tt
+not_taken Unwritten start begun line line' held new left whole none h = tt
 
 pub is_empty : (b : Bool) (new : List ℕ) → b ≡ false → IsFilled (Ok b) new → new ≡ []
 is_empty true new e h = absurd (cc)

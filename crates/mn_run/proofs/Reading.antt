@@ -17,12 +17,15 @@ other_head : (b c : ℕ) (text line : List ℕ) → b ≢ c → text_at (b ∷ t
 unfolding text_at
 other_head b c text line e = grind (arith, nat_tests)
 
-pub text_goes_on : (i : ℕ) (text line : List ℕ) → i < length text → i < length line → get_or line i 0 ≡ get_or text i 0 → text_at (drop i text) (drop i line) ≡ text_at (drop (i + 1) text) (drop (i + 1) line)
+pub text_goes_on : (i : ℕ) (text line : List ℕ) → i < length text → i < length line → get_or line i 0 ≡ get_or text i 0
+    → text_at (drop i text) (drop i line) ≡ text_at (drop (i + 1) text) (drop (i + 1) line)
 text_goes_on i text line h k e = rw (add-one, drop-cons text i 0, drop-cons line i 0) (same_head _ _ _ _ (sym e))
 
-pub text_differs : (i : ℕ) (text line : List ℕ) → i < length text → i < length line → get_or line i 0 ≢ get_or text i 0 → text_at (drop i text) (drop i line) ≡ Err (length line - i)
+pub text_differs : (i : ℕ) (text line : List ℕ) → i < length text → i < length line → get_or line i 0 ≢ get_or text i 0
+    → text_at (drop i text) (drop i line) ≡ Err (length line - i)
 text_differs i text line h k e =
-    rw (drop-cons text i 0, drop-cons line i 0) (other_head _ _ _ _ (λ same. e (sym same)) ∙ ap Err (omega (arith, length-drop (suc i) line)))
+    rw (drop-cons text i 0, drop-cons line i 0)
+    (other_head _ _ _ _ (λ same. e (sym same)) ∙ ap Err (omega (arith, length-drop (suc i) line)))
 
 pub text_ends : (i : ℕ) (text line : List ℕ) → i < length text → length line ≤ i → text_at (drop i text) (drop i line) ≡ Err 0
 unfolding text_at
@@ -40,7 +43,8 @@ text_front [] line rest e = cc
 text_front (b ∷ text) [] rest e = absurd cc
 text_front (b ∷ text) (c ∷ line) rest e = by (text_front text line rest) (eqb b c) refl e
   where
-    by : (text_at text line ≡ Ok rest → line ≡ text ++ rest) → (t : Bool) → eqb b c ≡ t → cond t (text_at text line) (Err (length (c ∷ line))) ≡ Ok rest → c ∷ line ≡ b ∷ (text ++ rest)
+    by : (text_at text line ≡ Ok rest → line ≡ text ++ rest) → (t : Bool) → eqb b c ≡ t
+        → cond t (text_at text line) (Err (length (c ∷ line))) ≡ Ok rest → c ∷ line ≡ b ∷ (text ++ rest)
     by others true same h = (λ i. sym (eqb-true b c same) i ∷ others h i)
     by others false same h = absurd cc
 

@@ -5,12 +5,15 @@ use Rattle.mn_run.specs.Commands.{◌>>=◌, field_at}
 -- why the bytes behind the front are refused
 pub data Why (Refuses : List ℕ → ℕ → Type 0) (front rest : List ℕ) : Type 0 where
   more_due : rest ≡ [] → Why Refuses front rest
-  other_byte : (c : ℕ) (after : List ℕ) → rest ≡ c ∷ after → ((tail : List ℕ) → Refuses (front ++ c ∷ tail) (length (c ∷ tail))) → Why Refuses front rest
+  other_byte : (c : ℕ) (after : List ℕ) → rest ≡ c ∷ after → ((tail : List ℕ) → Refuses (front ++ c ∷ tail) (length (c ∷ tail)))
+      → Why Refuses front rest
 
--- The front may still become a text that is Done, or it goes up to a key or a value that cannot be read.
-pub data Refusal (Done Before : List ℕ → Type 0) (Refuses : List ℕ → ℕ → Type 0) (line : List ℕ) (left : ℕ) : Type 0 where
-  at_byte : (front rest tail : List ℕ) → line ≡ front ++ rest → left ≡ length rest → Done (front ++ tail) → Why Refuses front rest → Refusal Done Before Refuses line left
-  in_field : (front rest : List ℕ) → line ≡ front ++ rest → Before front → field_at rest ≡ Err left → Refusal Done Before Refuses line left
+-- The front may still become a text that is Done, or it goes up to a key or a value that cannot be read, with so many levels.
+pub data Refusal (Done : List ℕ → Type 0) (Before Refuses : List ℕ → ℕ → Type 0) (line : List ℕ) (left : ℕ) : Type 0 where
+  at_byte : (front rest tail : List ℕ) → line ≡ front ++ rest → left ≡ length rest → Done (front ++ tail) → Why Refuses front rest
+      → Refusal Done Before Refuses line left
+  in_field : (front rest : List ℕ) (levels : ℕ) → line ≡ front ++ rest → Before front levels → field_at levels rest ≡ Err left
+      → Refusal Done Before Refuses line left
 
 -- ---- results
 

@@ -1,117 +1,199 @@
--- One order answered and told, and the script's end.
-use Rattle.std.proofs.Common.{◌≡◌, ◌⊎◌, ℕ, ◌≤◌, List, [], ◌∷◌, ◌++◌, Result, sym, ap, ◌∙◌, subst, inl, inr, append-nil}
+-- One event answered and told, and the script's end.
+use Rattle.std.proofs.Common.{◌≡◌, ◌⊎◌, ℕ, ◌≤◌, List, [], ◌∷◌, ◌++◌, length, Result, Ok, Err, refl, sym, ap, ◌∙◌, subst, inl, inr, append-nil, arith}
+use Rattle.std.specs.Prelude.{OnOk}
+use Rattle.std.proofs.lemmas.List.{take_all}
 use Rattle.file_trait.specs.Counts.{Rose}
 use Rattle.file_trait.specs.DiskModel.{Past, clock}
-use Rattle.mn_run.specs.Machine.{Machine}
-use Rattle.mn_run.specs.Orders.{Order, Answer}
-use Rattle.mn_run.specs.Orders as orders
-use Rattle.mn_run.specs.Runs.{Told, Served, Ended, EndsAs, mark_of, mark_if}
-use Rattle.mn_run.specs.Shown.{Shows, ShowsLife}
+use Rattle.mn_node.specs.Shown.{Shows, ShowsLife, Steps, IsWhole}
+use Rattle.mn_node.specs.Machine.{Machine, Event, Answer, stopped, is_down, fault, damaged}
+use Rattle.mn_node.specs.Machine as machines
+use Rattle.mn_node.specs.declared.node.Node.{Node}
+use Rattle.mn_node.specs.declared.node.State.{State}
+use Rattle.mn_node.specs.declared.node.State.TheVariants.{Unstarted, Up, Stopped, Faulted, Starved, Ruined}
+use Rattle.file_trait.specs.Streams.{TookSome}
+use Rattle.mn_node.specs.Seen.{answer}
+use Rattle.mn_node.specs.declared.reply.Reply.{Reply}
+use Rattle.mn_node.specs.declared.reply.Reply.TheVariants as replies
+use Rattle.mn_run.specs.Replies.{text_of}
+use Rattle.mn_run.specs.Runs.{mark_of, mark_if}
+use Rattle.mn_run.specs.Sessions.{Told, Served, Ended, EndsAs, MarksEnd, node_mark}
 use Rattle.mn_run.specs.Statuses.{status_of_down}
-use Rattle.mn_run.specs.Steps.{Steps}
-use Rattle.mn_run.specs.declared.node.Node.{Node}
-use Rattle.mn_run.specs.declared.node.State.{State}
-use Rattle.mn_run.specs.declared.node.State.TheVariants.{Unstarted, Up, Stopped, Faulted, Starved}
 use Rattle.mn_run.specs.declared.outcome.Mark.{Mark}
 use Rattle.mn_run.specs.declared.outcome.Status.{Status}
 use Rattle.mn_run.specs.declared.outcome.Status.TheVariants as status
-use Rattle.mn_run.proofs.RunEvents.{world}
+use Rattle.mn_run.specs.declared.session.Session.{Session}
+use Rattle.mn_run.proofs.RunActs.{world}
 
 -- the node's counts are the machine's
-abbrev pub node_mark : ℕ → Node → ℕ → ℕ → Mark
-node_mark done node moment faults = record { clock = moment; done = done; entries = node.entries; synced = node.durable; faults = faults; wants = 0 }
-
-pub mark_is : (first : Past) (done : ℕ) (node : Node) (now : Past) (faults : ℕ) (machine : Machine) (moment : ℕ) (mark : Mark) → Shows first node now machine → moment ≡ clock now → mark ≡ node_mark done node moment faults
+mark_is : (first : Past) (done : ℕ) (node : Node) (now : Past) (faults : ℕ) (machine : Machine) (mark : Mark) → Shows first node now machine
+    → mark ≡ node_mark done node now faults
     → mark ≡ mark_of done (world machine now faults)
-mark_is first done node now faults machine moment mark shows at is = is ∙ (λ i. record { clock = at i; done = done; entries = shows.entries i; synced = shows.durable i; faults = faults; wants = 0 })
+mark_is first done node now faults machine mark shows is =
+    is ∙ (λ i. record { clock = clock now; done = done; entries = shows.entries i; synced = shows.synced i; faults = faults; wants = 0 })
 
--- any reply may come with want of memory
-pub wanting : (answer : Answer) (new : Machine) → EndsAs answer new status.Memory
-wanting orders.stopped new = tt
-wanting (orders.fault name) new = tt
-wanting orders.is_down new = tt
-wanting answer new = tt
+-- the run goes on only where there was no damage
+pub whole_on : (answer : Answer) (mark : Mark) (result : Result Unit Status) (old_text new_text : List ℕ) (old_marks new_marks : List Mark)
+    (state : State)
+    → Told answer mark result old_text new_text old_marks new_marks
+    → (((name : List ℕ) (at : ℕ) → answer ≡ damaged name at → ⊥) → IsWhole state) → OnOk result (IsWhole state)
+whole_on answer mark (Ok done) old_text new_text old_marks new_marks state told whole =
+    whole (λ name at is. let other = told.sound name at is in cc other)
+whole_on answer mark (Err end) old_text new_text old_marks new_marks state told whole = tt
+
+-- a reply that is no damage
+pub not_damaged : (reply : Reply) → ((name : List ℕ) (at : ℕ) → reply ≡ replies.Damaged name at → ⊥) → (name : List ℕ) (at : ℕ)
+    → answer reply ≡ damaged name at → ⊥
+not_damaged (replies.Started n) none name at is = cc
+not_damaged replies.Done none name at is = cc
+not_damaged (replies.Found records) none name at is = cc
+not_damaged replies.Synced none name at is = cc
+not_damaged replies.Stopped none name at is = cc
+not_damaged (replies.Badarg place) none name at is = cc
+not_damaged replies.Down none name at is = cc
+not_damaged replies.Up none name at is = cc
+not_damaged replies.Memory none name at is = cc
+not_damaged (replies.Fault file) none name at is = cc
+not_damaged (replies.Damaged file place) none name at is = none file place refl
+
+module _ (given : Answer) (mark : Mark) (old_text new_text : List ℕ) (old_marks new_marks : List Mark) (sound : (name : List ℕ) (at : ℕ)
+    → given ≡ damaged name at → ⊥) (all : new_text ≡ old_text ++ text_of given) where
+  line_taken : TookSome (text_of given) old_text new_text
+  line_taken = record {
+    n = length (text_of given);
+    within = omega arith;
+    grown =
+        all ∙ ap (λ xs. old_text ++ xs) (sym (take_all (length (text_of given)) (text_of given) (omega arith)));
+  }
+
+  pub told_all : new_marks ≡ old_marks ++ mark ∷ [] → Told given mark (Ok tt) old_text new_text old_marks new_marks
+  told_all more = record {
+    some = line_taken;
+    ok = λ is. (all, more);
+    err = λ end is. cc;
+    damage = λ name at is. cc;
+    sound =
+        λ name at is. absurd (sound name at is);
+  }
+
+  pub told_unmarked : new_marks ≡ old_marks → Told given mark (Err status.Memory) old_text new_text old_marks new_marks
+  told_unmarked same = record {
+    some = line_taken;
+    ok = λ is. cc;
+    err = λ end is. same;
+    damage = λ name at is. cc;
+    sound =
+        λ name at is. absurd (sound name at is);
+  }
 
 -- how a call that takes a mark says it
-pub is_marked : (mark : Mark) (end result good : Status) (old_marks new_marks taken : List Mark) → end ≡ result → new_marks ≡ taken → (result ≡ good) × (taken ≡ old_marks ++ mark ∷ []) ⊎ ((result ≡ status.Memory) × (taken ≡ old_marks))
+pub is_marked : (mark : Mark) (end result good : Status) (old_marks new_marks taken : List Mark) → end ≡ result → new_marks ≡ taken
+    → (result ≡ good) × (taken ≡ old_marks ++ mark ∷ []) ⊎ ((result ≡ status.Memory) × (taken ≡ old_marks))
     → (end ≡ good) × (new_marks ≡ old_marks ++ mark ∷ []) ⊎ ((end ≡ status.Memory) × (new_marks ≡ old_marks))
 is_marked mark end result good old_marks new_marks taken e n (inl (a, b)) = inl (e ∙ a, n ∙ b)
 is_marked mark end result good old_marks new_marks taken e n (inr (a, b)) = inr (e ∙ a, n ∙ b)
 
-module _ (first : Past) (machine : Machine) (past : Past) (faults : ℕ) (node : Node) (now : Past) (faults_now : ℕ) (later : faults ≤ faults_now) (done moment : ℕ) (mark : Mark) (at : moment ≡ clock now) (is : mark ≡ node_mark done node moment faults_now)
-    (answer : Answer) (rose : (name : List ℕ) → answer ≡ orders.fault name → Rose faults faults_now) where
-  pub served : (order : Order) (result : Result Unit Status) (old_out new_out : List ℕ) (old_marks new_marks : List Mark) → Steps first machine order answer node past now → Told answer mark result old_out new_out old_marks new_marks
-      → Served first (world machine past faults) order done result node now faults_now old_out new_out old_marks new_marks
-  served order result old_out new_out old_marks new_marks s told = record {
-    answer = answer;
-    new = s.new;
-    change = s.change;
-    shows = s.shows;
-    during = s.during;
-    sound = s.sound;
-    later = later;
-    rose = rose;
-    told = subst (λ (m : Mark). Told answer m result old_out new_out old_marks new_marks) (mark_is first done node now faults_now s.new moment mark s.shows at is) told;
-  }
+module _ (first : Past) (machine : Machine) (before : Past) (faults : ℕ) (session new : Session) (node : Node) (same : new.node ≡ node)
+    (now : Past) (faults_now : ℕ) (later : faults ≤ faults_now)
+    (done : ℕ) (mark : Mark) (is : mark ≡ node_mark done node now faults_now) (answer : Answer)
+    (rose : (name : List ℕ) → answer ≡ fault name → Rose faults faults_now)
+    (answered : ((name : List ℕ) → answer ≡ fault name → ⊥) → faults_now ≡ faults) where
+  module _ (event : Event) (steps : Steps first machine event answer session.node node before now) where
+    s : Steps first machine event answer session.node new.node before now
+    s = subst (λ (n : Node). Steps first machine event answer session.node n before now) (sym same) steps
 
-  -- the mark was taken, or memory was wanting
-  abbrev pub IsMarked : Status → Status → List Mark → List Mark → Type 0
-  IsMarked result end old_marks new_marks = (result ≡ end) × (new_marks ≡ old_marks ++ mark ∷ []) ⊎ ((result ≡ status.Memory) × (new_marks ≡ old_marks))
+    mark_here : mark ≡ mark_of done (world s.new now faults_now)
+    mark_here = mark_is first done new.node now faults_now s.new mark s.shows
+        (is ∙ ap (λ (n : Node). node_mark done n now faults_now) (sym same))
 
-  ended : (end : Status) (old_marks new_marks : List Mark) (s : Steps first machine orders.stop answer node past now) → EndsAs answer s.new end
-      → ((end ≡ status.Memory → ⊥) → new_marks ≡ old_marks ++ mark_if orders.end answer (mark_of done (world s.new now faults_now)))
-      → (end ≡ status.Memory → (new_marks ≡ old_marks) ⊎ (new_marks ≡ old_marks ++ mark_if orders.end answer (mark_of done (world s.new now faults_now))))
-      → Ended first (world machine past faults) done end node now faults_now old_marks new_marks
-  ended end old_marks new_marks s how marked unmarked = record {
-    answer = answer;
-    new = s.new;
-    change = s.change;
-    shows = s.shows;
-    during = s.during;
-    sound = s.sound;
-    later = later;
-    rose = rose;
-    how = how;
-    marked = marked;
-    unmarked = unmarked;
-  }
+    pub served : (result : Result Unit Status)
+        → Told answer mark result session.text.items new.text.items session.marks.items new.marks.items
+        → Served first (world machine before faults) event done result session new now faults_now
+    served result told = record {
+      answer = answer;
+      steps = s;
+      later = later;
+      rose = rose;
+      answered = answered;
+      told = subst (λ (m : Mark). Told answer m result session.text.items new.text.items session.marks.items new.marks.items) mark_here
+          told;
+    }
 
-  -- the stop was answered by a reply that takes a mark
-  ended_marked : (good end : Status) (old_marks new_marks : List Mark) (s : Steps first machine orders.stop answer node past now) → IsMarked end good old_marks new_marks → EndsAs answer s.new good
-      → mark_if orders.end answer (mark_of done (world s.new now faults_now)) ≡ mark_of done (world s.new now faults_now) ∷ [] → Ended first (world machine past faults) done end node now faults_now old_marks new_marks
-  ended_marked good end old_marks new_marks s (inl (same, more)) how one =
-      let is_mark = mark_is first done node now faults_now s.new moment mark s.shows at is in
-      let all : new_marks ≡ old_marks ++ mark_if orders.end answer (mark_of done (world s.new now faults_now)) = more ∙ ap (λ (m : Mark). old_marks ++ m ∷ []) is_mark ∙ ap (λ xs. old_marks ++ xs) (sym one) in
-      ended end old_marks new_marks s (subst (EndsAs answer s.new) (sym same) how) (λ other. all) (λ e. inr all)
-  ended_marked good end old_marks new_marks s (inr (same, none)) how one =
-      ended end old_marks new_marks s (subst (EndsAs answer s.new) (sym same) (wanting answer s.new)) (λ other. absurd (other same)) (λ e. inl none)
+  module _ (steps : Steps first machine machines.end answer session.node node before now) where
+    abbrev e : Steps first machine machines.end answer session.node new.node before now
+    e = s machines.end steps
 
-  pub ended_stopped : (end : Status) (old_marks new_marks : List Mark) → Steps first machine orders.stop answer node past now → answer ≡ orders.stopped → IsMarked end status.Done old_marks new_marks → Ended first (world machine past faults) done end node now faults_now old_marks new_marks
-  ended_stopped end old_marks new_marks s stop marked =
-      ended_marked status.Done end old_marks new_marks s marked (subst (λ (a : Answer). EndsAs a s.new status.Done) (sym stop) tt) (ap (λ (a : Answer). mark_if orders.end a (mark_of done (world s.new now faults_now))) stop)
+    abbrev left : List Mark
+    left = mark_if machines.end answer (mark_of done (world e.new now faults_now))
 
-  pub ended_fault : (end : Status) (name : List ℕ) (old_marks new_marks : List Mark) → Steps first machine orders.stop answer node past now → answer ≡ orders.fault name → IsMarked end status.DiskFault old_marks new_marks
-      → Ended first (world machine past faults) done end node now faults_now old_marks new_marks
-  ended_fault end name old_marks new_marks s fault marked =
-      ended_marked status.DiskFault end old_marks new_marks s marked (subst (λ (a : Answer). EndsAs a s.new status.DiskFault) (sym fault) tt) (ap (λ (a : Answer). mark_if orders.end a (mark_of done (world s.new now faults_now))) fault)
+    ended : (end : Status) → EndsAs answer e.new end → MarksEnd end left session.marks.items new.marks.items
+        → Ended first (world machine before faults) done end session new now faults_now
+    ended end how marked = record { answer = answer; steps = e; later = later; rose = rose; answered = answered; how = how; marked = marked }
 
-  -- by another reply, which takes none
-  pub ended_wanting : (end : Status) (old_marks new_marks : List Mark) → Steps first machine orders.stop answer node past now → end ≡ status.Memory → new_marks ≡ old_marks → Ended first (world machine past faults) done end node now faults_now old_marks new_marks
-  ended_wanting end old_marks new_marks s wants none = ended end old_marks new_marks s (subst (EndsAs answer s.new) (sym wants) (wanting answer s.new)) (λ other. absurd (other wants)) (λ e. inl none)
+    all_marked : (end : Status) → new.marks.items ≡ session.marks.items ++ left → MarksEnd end left session.marks.items new.marks.items
+    all_marked status.Memory more = inr more
+    all_marked end more = more
 
-  -- the node was down
-  pub ended_down : (end : Status) (old_marks new_marks : List Mark) → Steps first machine orders.stop answer node past now → answer ≡ orders.is_down → end ≡ status_of_down node.state → new_marks ≡ old_marks
-      → Ended first (world machine past faults) done end node now faults_now old_marks new_marks
-  ended_down end old_marks new_marks s down is_end none = by node.state s.shows.life is_end
-    where
-      how_down : (why : Status) → EndsAs orders.is_down s.new why → end ≡ why → Ended first (world machine past faults) done end node now faults_now old_marks new_marks
-      how_down why how same =
-          ended end old_marks new_marks s (subst (EndsAs answer s.new) (sym same) (subst (λ (a : Answer). EndsAs a s.new why) (sym down) how))
-          (λ other. none ∙ sym (append-nil old_marks) ∙ ap (λ (a : Answer). old_marks ++ mark_if orders.end a (mark_of done (world s.new now faults_now))) (sym down)) (λ e. inl none)
+    -- the mark was taken, or memory was wanting
+    abbrev pub IsMarked : Status → Status → Type 0
+    IsMarked good end = (end ≡ good) × (new.marks.items ≡ session.marks.items ++ mark ∷ [])
+        ⊎ ((end ≡ status.Memory) × (new.marks.items ≡ session.marks.items))
 
-      by : (state : State) → ShowsLife state now s.new → end ≡ status_of_down state → Ended first (world machine past faults) done end node now faults_now old_marks new_marks
-      by Unstarted life same = how_down status.Memory tt same
-      by (Up live) life same = how_down status.Memory tt same
-      by Starved life same = how_down status.Memory tt same
-      by Stopped life same = how_down status.Done life.0 same
-      by Faulted life same = how_down status.DiskFault life same
+    wanting : (answer : Answer) → EndsAs answer e.new status.Memory
+    wanting stopped = tt
+    wanting (fault name) = tt
+    wanting is_down = tt
+    wanting other = tt
+
+    -- the stop was answered by a reply that takes a mark
+    ended_marked : (good end : Status) → IsMarked good end → EndsAs answer e.new good
+        → left ≡ mark_of done (world e.new now faults_now) ∷ []
+        → Ended first (world machine before faults) done end session new now faults_now
+    ended_marked good end (inl (how_ended, more)) how one =
+        let all : new.marks.items ≡ session.marks.items ++ left =
+        more ∙ ap (λ (m : Mark). session.marks.items ++ m ∷ []) (mark_here machines.end steps)
+        ∙ ap (λ xs. session.marks.items ++ xs) (sym one) in
+        ended end (subst (EndsAs answer e.new) (sym how_ended) how) (all_marked end all)
+    ended_marked good end (inr (how_ended, none)) how one =
+        ended end (subst (EndsAs answer e.new) (sym how_ended) (wanting answer))
+        (subst (λ (x : Status). MarksEnd x left session.marks.items new.marks.items) (sym how_ended) (inl none))
+
+    pub ended_stopped : (end : Status) → answer ≡ stopped → IsMarked status.Done end
+        → Ended first (world machine before faults) done end session new now faults_now
+    ended_stopped end stop marked =
+        ended_marked status.Done end marked (subst (λ (a : Answer). EndsAs a e.new status.Done) (sym stop) tt)
+        (ap (λ (a : Answer). mark_if machines.end a (mark_of done (world e.new now faults_now))) stop)
+
+    pub ended_fault : (end : Status) (name : List ℕ) → answer ≡ fault name → IsMarked status.DiskFault end
+        → Ended first (world machine before faults) done end session new now faults_now
+    ended_fault end name failed marked =
+        ended_marked status.DiskFault end marked (subst (λ (a : Answer). EndsAs a e.new status.DiskFault) (sym failed) tt)
+        (ap (λ (a : Answer). mark_if machines.end a (mark_of done (world e.new now faults_now))) failed)
+
+    -- by another reply, which takes none
+    pub ended_wanting : (end : Status) → end ≡ status.Memory → new.marks.items ≡ session.marks.items
+        → Ended first (world machine before faults) done end session new now faults_now
+    ended_wanting end wants none =
+        ended end (subst (EndsAs answer e.new) (sym wants) (wanting answer))
+        (subst (λ (x : Status). MarksEnd x left session.marks.items new.marks.items) (sym wants) (inl none))
+
+    -- the node was down
+    pub ended_down : (end : Status) → answer ≡ is_down → end ≡ status_of_down node.state → new.marks.items ≡ session.marks.items
+        → Ended first (world machine before faults) done end session new now faults_now
+    ended_down end down is_end none = by new.node.state e.shows.life (is_end ∙ ap (λ (n : Node). status_of_down n.state) (sym same))
+      where
+        how_down : (why : Status) → EndsAs is_down e.new why → end ≡ why
+            → Ended first (world machine before faults) done end session new now faults_now
+        how_down why how same_end =
+            ended end (subst (EndsAs answer e.new) (sym same_end) (subst (λ (a : Answer). EndsAs a e.new why) (sym down) how))
+            (all_marked end (none ∙ sym (append-nil session.marks.items)
+            ∙ ap (λ (a : Answer). session.marks.items ++ mark_if machines.end a (mark_of done (world e.new now faults_now)))
+            (sym down)))
+
+        by : (state : State) → ShowsLife state now e.new e.shows.earlier → end ≡ status_of_down state
+            → Ended first (world machine before faults) done end session new now faults_now
+        by Unstarted life same_end = how_down status.Memory tt same_end
+        by (Up live) life same_end = how_down status.Memory tt same_end
+        by Starved life same_end = how_down status.Memory tt same_end
+        by Ruined life same_end = how_down status.Memory tt same_end
+        by Stopped life same_end = how_down status.Done life.0 same_end
+        by Faulted life same_end = how_down status.DiskFault life same_end

@@ -1,8 +1,7 @@
 -- What reading a line gives.
-use Rattle.std.specs.Prelude.{◌≡◌, ℕ, ◌+◌, ◌<◌, ◌≤◌, ◌==◌, Bool, true, false, if◌then◌else◌, List, [], ◌∷◌, ◌++◌, length, take, drop, Result, Ok, Err, IsErrOf}
-use Rattle.file_trait.specs.Counts.{Rose}
+use Rattle.std.specs.Prelude.{◌≡◌, ℕ, ◌+◌, ◌<◌, ◌≤◌, ◌==◌, Bool, true, false, if◌then◌else◌, List, [], ◌∷◌, ◌++◌, length, take, drop, Result, Ok, Err}
 use Rattle.mn_run.specs.declared.lines.LineErr.{LineErr}
-use Rattle.mn_run.specs.declared.lines.LineErr.TheVariants.{Failed, TooLong, Memory}
+use Rattle.mn_run.specs.declared.lines.LineErr.TheVariants.{TooLong, Memory}
 use Rattle.mn_run.specs.declared.lines.TheConstants.{MOST_LINE}
 use Rattle.mn_run.specs.Lines.{lines_of}
 
@@ -22,7 +21,7 @@ abbrev pub Added : Result Unit LineErr → List ℕ → List ℕ → List ℕ �
 Added (Ok done) old new part = (new ≡ old ++ part) × (length new ≤ MOST_LINE)
 Added (Err TooLong) old new part = MOST_LINE < length (old ++ part)
 Added (Err Memory) old new part = Unit {0}
-Added (Err Failed) old new part = ⊥
+Added (Err other) old new part = ⊥
 
 -- a line that was begun goes on by a part of what was read, up to its end or to the end of what was read
 pub record Ended (old_line new_line old new : List ℕ) : Type 0 where
@@ -50,7 +49,7 @@ Grows (Ok true) old_line new_line old new = Ended old_line new_line old new
 Grows (Ok false) old_line new_line old new = Open old_line new_line old new
 Grows (Err TooLong) old_line new_line old new = Over old_line old
 Grows (Err Memory) old_line new_line old new = Unit {0}
-Grows (Err Failed) old_line new_line old new = ⊥
+Grows (Err other) old_line new_line old new = ⊥
 
 -- what is read next, of what the source has left
 abbrev pub Refills : Result Bool LineErr → List ℕ → List ℕ → List ℕ → Type 0
@@ -61,18 +60,13 @@ Refills (Err e) new left now = Unit {0}
 abbrev pub IsFilled : Result Bool LineErr → List ℕ → Type 0
 IsFilled (Ok true) new = 0 < length new
 IsFilled (Ok false) new = new ≡ []
-IsFilled (Err Failed) new = Unit {0}
 IsFilled (Err TooLong) new = ⊥
-IsFilled (Err Memory) new = ⊥
+IsFilled (Err other) new = Unit {0}
 
 -- the first line of what was to come, none at the end, or one over the limit
 abbrev pub FirstLine : Result Bool LineErr → List ℕ → List ℕ → List ℕ → Type 0
 FirstLine (Ok true) line old new = lines_of old ≡ line ∷ lines_of new
 FirstLine (Ok false) line old new = lines_of old ≡ []
-FirstLine (Err TooLong) line old new = (first : List ℕ) × (later : List (List ℕ)) × (lines_of old ≡ first ∷ later) × (MOST_LINE < length first)
-FirstLine (Err Failed) line old new = Unit {0}
-FirstLine (Err Memory) line old new = Unit {0}
-
-pub record LineCause (before now : ℕ) (result : Result Bool LineErr) : Type 0 where
-  pub later : before ≤ now
-  pub failed : IsErrOf result Failed → Rose before now
+FirstLine (Err TooLong) line old new =
+    (first : List ℕ) × (later : List (List ℕ)) × (lines_of old ≡ first ∷ later) × (MOST_LINE < length first)
+FirstLine (Err other) line old new = Unit {0}

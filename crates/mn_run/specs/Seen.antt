@@ -1,36 +1,17 @@
--- What the code's commands and replies are as plain data.
-use Rattle.std.specs.Prelude.{◌≡◌, ℕ, map, Result, Ok, Err}
-use Rattle.term_core.specs.View.{tree_of}
-use Rattle.mn_run.specs.Orders.{Order, Answer}
-use Rattle.mn_run.specs.Orders as orders
-use Rattle.mn_run.specs.Commits.{IsRow}
+-- What the code's lines are as plain data.
+use Rattle.std.specs.Prelude.{◌≡◌, ℕ, Result, Ok, Err}
+use Rattle.mn_node.specs.Machine.{Event, start, command}
+use Rattle.mn_node.specs.Machine as machine
+use Rattle.mn_node.specs.Seen as node
+use Rattle.mn_run.specs.declared.commands.Line.{Line}
+use Rattle.mn_run.specs.declared.commands.Line.TheVariants.{Start, Do, Refused}
 use Rattle.mn_run.specs.declared.commands.PartErr.{PartErr}
 use Rattle.mn_run.specs.declared.commands.PartErr.TheVariants as part
-use Rattle.mn_run.specs.declared.commands.Command.{Command}
-use Rattle.mn_run.specs.declared.commands.Command.TheVariants.{Put, Get, SyncLog, Start, Stop, Badarg}
-use Rattle.mn_run.specs.declared.replies.Reply.{Reply}
-use Rattle.mn_run.specs.declared.replies.Reply.TheVariants as replies
 
-abbrev pub order : Command → Order
-order (Put item) = orders.put (tree_of item)
-order (Get key) = orders.get (tree_of key)
-order SyncLog = orders.sync_log
-order Start = orders.start
-order Stop = orders.stop
-order (Badarg at) = orders.bad at
-
-abbrev pub answer : Reply → Answer
-answer (replies.Started n) = orders.started n
-answer replies.Done = orders.done
-answer (replies.Found records) = orders.found (map tree_of records)
-answer (replies.Badarg at) = orders.bad_line at
-answer replies.Synced = orders.synced
-answer replies.Stopped = orders.stopped
-answer replies.Down = orders.is_down
-answer replies.Up = orders.is_up
-answer replies.Memory = orders.no_memory
-answer (replies.Fault name) = orders.fault name
-answer (replies.Damaged name at) = orders.damaged name at
+abbrev pub event : Line → Event
+event Start = start
+event (Do c) = command (node.asked c)
+event (Refused at) = machine.refused at
 
 -- What a reader of the code answers is what reading on lists answers, unless memory is wanting.
 abbrev pub Refuses : {Y : Type 0} → PartErr → Result Y ℕ → Type 0
@@ -42,6 +23,6 @@ Gives view (Ok x) read = read ≡ Ok (view x)
 Gives view (Err e) read = Refuses e read
 
 -- what is put is a record of the table
-abbrev pub AsksRow : Command → Type 0
-AsksRow (Put item) = IsRow (tree_of item)
+abbrev pub AsksRow : Line → Type 0
+AsksRow (Do c) = node.AsksRow c
 AsksRow other = Unit {0}

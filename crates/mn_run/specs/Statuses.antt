@@ -1,7 +1,7 @@
 -- The exit status of the program, and how a run ends.
 use Rattle.std.specs.Prelude.{ℕ}
-use Rattle.mn_run.specs.declared.node.State.{State}
-use Rattle.mn_run.specs.declared.node.State.TheVariants.{Stopped, Faulted}
+use Rattle.mn_node.specs.declared.node.State.{State}
+use Rattle.mn_node.specs.declared.node.State.TheVariants.{Stopped, Faulted}
 use Rattle.mn_run.specs.declared.outcome.Status.{Status}
 use Rattle.mn_run.specs.declared.outcome.Status.TheVariants.{Done, Usage, ReadFault, WriteFault, DiskFault, Damaged, Memory, TooLong}
 

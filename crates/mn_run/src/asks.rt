@@ -1,14 +1,14 @@
 //! What the lines ask for.
 
-ghost use Rattle.std.specs.Prelude.{◌≡◌, ◌≤◌, ◌+◌, ◌++◌, ◌∷◌, length, IsTrue, IfOk, IfErr};
+ghost use Rattle.std.specs.Prelude.{◌≡◌, ◌⊎◌, ◌≤◌, ◌+◌, ◌++◌, [], ◌∷◌, length, Ok, IsTrue, IfOk, IfErr};
 ghost use Rattle.mn_run.specs.Lines.{lines_of};
 ghost use Rattle.mn_run.specs.Script.{plan_from};
-ghost use Rattle.mn_run.specs.Runs.{Asks, AsksRowAt, Goes, Causes, IsOfReading};
+ghost use Rattle.mn_run.specs.Asks.{Asks, AsksRowAt, Goes, Flushes, IsKeptOrGone, Causes, IsOfReading};
 
 use crate::Status;
-use crate::commands::{Command, read_command};
+use crate::commands::{Line, read_command};
 use crate::lines::{LineErr, Lines, MOST_LINE};
-use file_trait::Source;
+use file_trait::{Sink, Source};
 use std::alloc::Global;
 
 /// The most lines of a script.
@@ -24,8 +24,8 @@ pub enum Ask {
     End,
     /// Nothing: the line is empty.
     Blank,
-    /// This command, or the refusal of a line that is none.
-    Do(Command),
+    /// This.
+    Do(Line),
 }
 
 /// How many lines and commands there were.
@@ -35,13 +35,15 @@ pub struct Place {
     pub commands: u64,
 }
 
-/// What the next line asks for.
-pub fn next_ask<S: Source>(
+/// What the next line asks for. What was gathered is written to the sink before the script is read.
+pub fn next_ask<S: Source, K: Sink>(
     alloc: Global,
     lines: &mut Lines,
     line: &mut Vec<u8>,
     script: &mut S,
     place: &mut Place,
+    text: &mut Vec<u8>,
+    out: &mut K,
 ) -> Result<Ask, Status>
     requires within { place.old.lines ≤ MOST_LINES }
     requires few { place.old.commands ≤ MOST_COMMANDS }
@@ -50,15 +52,23 @@ pub fn next_ask<S: Source>(
         (plan_from place.new.lines place.new.commands (lines_of (lines.new ++ S.left script.new))) }
     ensures row { IfOk result AsksRowAt }
     ensures cause { Causes Status.ReadFault (S.faults script.old) (S.faults script.new) result }
+    ensures printed { IsTrue K.tells
+        → Flushes result text.old.items text.new.items (K.written out.old) (K.written out.new) }
+    ensures write { Causes Status.WriteFault (K.faults out.old) (K.faults out.new) result }
+    ensures gathered { IsKeptOrGone text.old.items text.new.items }
+    // Where something is gathered still, the script was not read, and at its end nothing is.
+    ensures unread { (text.new.items ≡ []) ⊎ (script.new ≡ script.old) }
+    ensures end { result ≡ Ok Ask.End → text.new.items ≡ [] }
     ensures only { IfErr result IsOfReading }
     ensures goes { IfOk result (λ ask. Goes ask place.old.lines place.new.lines place.old.commands place.new.commands) }
     ensures within { place.new.lines ≤ MOST_LINES }
     ensures few { place.new.commands ≤ MOST_COMMANDS }
 {
-    match lines.next_line(script, line) {
+    match lines.next_line(script, line, text, out) {
         Ok(true) => ask_of(alloc, line, place),
         Ok(false) => Ok(Ask::End),
         Err(LineErr::Failed) => Err(Status::ReadFault),
+        Err(LineErr::Unwritten) => Err(Status::WriteFault),
         Err(LineErr::TooLong) => Err(Status::TooLong(place.lines + 1)),
         Err(LineErr::Memory) => Err(Status::Memory),
     }
@@ -75,6 +85,8 @@ fn ask_of(alloc: Global, line: &[u8], place: &mut Place) -> Result<Ask, Status>
     ensures row { IfOk result AsksRowAt }
     ensures only { IfErr result IsOfReading }
     ensures read { result ≡ Err Status.ReadFault → ⊥ }
+    ensures write { result ≡ Err Status.WriteFault → ⊥ }
+    ensures end { result ≡ Ok Ask.End → ⊥ }
     ensures goes { IfOk result (λ ask. Goes ask place.old.lines place.new.lines place.old.commands place.new.commands) }
     ensures within { place.new.lines ≤ MOST_LINES }
     ensures few { place.new.commands ≤ MOST_COMMANDS }
@@ -84,13 +96,13 @@ fn ask_of(alloc: Global, line: &[u8], place: &mut Place) -> Result<Ask, Status>
         return Err(Status::TooLong(number));
     }
     match read_command(alloc, line) {
-        Ok(Some(command)) => {
+        Ok(Some(asked)) => {
             if place.commands == MOST_COMMANDS {
                 return Err(Status::TooLong(number));
             }
             place.lines = number;
             place.commands += 1;
-            Ok(Ask::Do(command))
+            Ok(Ask::Do(asked))
         }
         Ok(None) => {
             place.lines = number;

@@ -5,31 +5,27 @@ ghost use Rattle.std.specs.List.{prefix_len, position_or_len};
 ghost use Rattle.term_core.specs.View.{tree_of};
 ghost use Rattle.mn_run.specs.Commands as lines;
 ghost use Rattle.mn_run.specs.Grammar.{IsCommand, IsMeant, IsWrongField, NoCommand, HasKey};
-ghost use Rattle.mn_run.specs.Orders as orders;
-ghost use Rattle.mn_run.specs.Orders.{Order};
-ghost use Rattle.mn_run.specs.Seen.{order, Gives, AsksRow};
+ghost use Rattle.mn_node.specs.Machine as machine;
+ghost use Rattle.mn_node.specs.Machine.{Event};
+ghost use Rattle.mn_node.specs.Puts.{row};
+ghost use Rattle.mn_run.specs.Seen.{event, Gives, AsksRow};
 ghost use Rattle.mn_run.specs.declared.lines.TheConstants.{MOST_LINE};
 
 use crate::terms::atom;
+use mn_node::Command;
 use sqlite_items::Items;
 use std::alloc::{AllocError, Global};
 use term_core::Term;
-use term_text::{TextErr, read_term};
+use term_text::{TextErr, read_term_within};
 
 /// What a line asks.
 #[derive(Drop)]
-pub enum Command {
-    /// The whole record, `{t,K,V}`.
-    Put(Term),
-    Get(Term),
-    /// To make the log durable.
-    SyncLog,
+pub enum Line {
     /// To start a node that is down.
     Start,
-    /// To stop the node.
-    Stop,
+    Do(Command),
     /// The line is no command, from this byte on.
-    Badarg(u64),
+    Refused(u64),
 }
 
 /// Why a line is no command.
@@ -41,8 +37,11 @@ enum PartErr {
     Memory,
 }
 
-/// The words of commands that are not here yet.
-const LATER: [&[u8]; 33] = [
+/// The levels of the deepest record or key.
+const MOST_LEVELS: u32 = 100;
+
+/// The names of commands that are not here yet.
+pub const LATER: [&[u8]; 30] = [
     b"dump_log",
     b"create_table",
     b"delete_table",
@@ -73,27 +72,24 @@ const LATER: [&[u8]; 33] = [
     b"install_fallback",
     b"uninstall_fallback",
     b"generate",
-    b"select",
-    b"load_text",
-    b"save_text",
 ];
 
-/// What the order of a line says: a command's line orders it, and any other line is refused at its
+/// What the event of a line says: a command's line asks for it, and any other line is refused at its
 /// place. A key or a value that cannot be read is refused where reading its term refuses it, and,
 /// unless more is due there, no command begins with such a line.
-#[tactic(auto, using(crate::proofs::LineLaws::order_again, crate::proofs::LineLaws::order_means, crate::proofs::LineLaws::order_wrong, crate::proofs::LineLaws::order_never))]
+#[tactic(auto, using(crate::proofs::LineLaws::event_again, crate::proofs::LineLaws::event_means))]
 pub fn line_laws()
-    ensures read { (line : List ℕ) (order : Order) → IsCommand line order → lines.order_of line ≡ Some order }
-    ensures means { (line : List ℕ) → IsMeant line (lines.order_of line) }
-    ensures field { (line : List ℕ) (at : ℕ) → IsWrongField line at → lines.order_of line ≡ Some (orders.bad at) }
+    ensures read { (line : List ℕ) (event : Event) → IsCommand line event → lines.event_of line ≡ Some event }
+    ensures means { (line : List ℕ) → IsMeant line (lines.event_of line) }
+    ensures field { (line : List ℕ) (at : ℕ) → IsWrongField line at → lines.event_of line ≡ Some (machine.refused at) }
     ensures never { (line : List ℕ) (at : ℕ) → IsWrongField line at → at < length line → NoCommand line }
 {}
 
 /// The command of a line, which comes without its line break. An empty line has none. Memory is
 /// taken from the first key on.
 #[tactic(auto, using(crate::proofs::LineLaws::refused_within))]
-pub fn read_command(alloc: Global, line: &[u8]) -> Result<Option<Command>, AllocError>
-    ensures command { IfOk result (λ command. option_map order command ≡ lines.order_of line.now) }
+pub fn read_command(alloc: Global, line: &[u8]) -> Result<Option<Line>, AllocError>
+    ensures command { IfOk result (λ command. option_map event command ≡ lines.event_of line.now) }
     ensures row { length line.now ≤ MOST_LINE → IfOk result (λ command. IfSome command AsksRow) }
     ensures memory { OnErr result (HasKey line.now) }
 {
@@ -101,8 +97,8 @@ pub fn read_command(alloc: Global, line: &[u8]) -> Result<Option<Command>, Alloc
         return Ok(None);
     }
     match read_line(alloc, line) {
-        Ok(command) => Ok(Some(command)),
-        Err(PartErr::Bad(left)) => Ok(Some(Command::Badarg(place(line, left)))),
+        Ok(asked) => Ok(Some(asked)),
+        Err(PartErr::Bad(left)) => Ok(Some(Line::Refused(place(line, left)))),
         Err(PartErr::Memory) => Err(AllocError),
     }
 }
@@ -110,7 +106,7 @@ pub fn read_command(alloc: Global, line: &[u8]) -> Result<Option<Command>, Alloc
 /// Where a line is refused: at the first of its last `left` bytes, or at once if its command is to come.
 fn place(line: &[u8], left: usize) -> u64
     requires { left ≤ length line.now }
-    ensures { orders.bad result ≡ lines.ordered line.now (Err left) }
+    ensures { machine.refused result ≡ lines.event_or_refused line.now (Err left) }
 {
     if is_later(line) {
         return 0;
@@ -175,12 +171,12 @@ fn read_text<'a>(line: &'a [u8], text: &[u8]) -> Result<&'a [u8], PartErr>
     Ok(rest)
 }
 
-/// A key or a value: any term.
+/// A key or a value: any term of at most so many levels.
 #[tactic(auto, unfolding(crate::specs::Commands::field_at))]
-fn read_field(alloc: Global, line: &[u8]) -> Result<(Term, &[u8]), PartErr>
-    ensures { Gives (λ x. (tree_of x.0, x.1.now)) result (lines.field_at line.now) }
+fn read_field(alloc: Global, levels: u32, line: &[u8]) -> Result<(Term, &[u8]), PartErr>
+    ensures { Gives (λ x. (tree_of x.0, x.1.now)) result (lines.field_at levels line.now) }
 {
-    match read_term(alloc, line, 0) {
+    match read_term_within(alloc, levels, line, 0) {
         Ok((term, behind)) => {
             let (_, rest) = line.split_at(behind);
             Ok((term, rest))
@@ -192,29 +188,29 @@ fn read_field(alloc: Global, line: &[u8]) -> Result<(Term, &[u8]), PartErr>
     }
 }
 
-/// `put t {t,K,V}`
+/// `put t {t,K,V}`. The record's own level counts.
 #[tactic(auto, using(crate::proofs::Reading::key_of_put), unfolding(crate::specs::Commands::put_at))]
-fn read_put(alloc: Global, line: &[u8]) -> Result<Command, PartErr>
-    ensures part { Gives order result (lines.put_at line.now) }
+fn read_put(alloc: Global, line: &[u8]) -> Result<Line, PartErr>
+    ensures part { Gives event result (lines.put_at line.now) }
     ensures memory { result ≡ Err PartErr.Memory → HasKey line.now }
 {
     let rest = read_text(line, b"put t {t,")?;
-    let (key, rest) = read_field(alloc, rest)?;
+    let (key, rest) = read_field(alloc, MOST_LEVELS - 1, rest)?;
     let rest = read_text(rest, b",")?;
-    let (value, rest) = read_field(alloc, rest)?;
+    let (value, rest) = read_field(alloc, MOST_LEVELS - 1, rest)?;
     let rest = read_text(rest, b"}")?;
     if !rest.is_empty() {
         return Err(PartErr::Bad(rest.len()));
     }
     match table_row(alloc, key, value) {
-        Ok(row) => Ok(Command::Put(row)),
+        Ok(row) => Ok(Line::Do(Command::Put(row))),
         Err(AllocError) => Err(PartErr::Memory),
     }
 }
 
 /// A record of the table `t`.
 fn table_row(alloc: Global, key: Term, value: Term) -> Result<Term, AllocError>
-    ensures { IfOk result (λ t. tree_of t ≡ lines.row (tree_of key) (tree_of value)) }
+    ensures { IfOk result (λ t. tree_of t ≡ row (tree_of key) (tree_of value)) }
 {
     let mut items = Items::new(alloc);
     items.push(atom(alloc, "t")?)?;
@@ -225,60 +221,60 @@ fn table_row(alloc: Global, key: Term, value: Term) -> Result<Term, AllocError>
 
 /// `get t K`
 #[tactic(auto, using(crate::proofs::Reading::key_of_get), unfolding(crate::specs::Commands::get_at))]
-fn read_get(alloc: Global, line: &[u8]) -> Result<Command, PartErr>
-    ensures part { Gives order result (lines.get_at line.now) }
+fn read_get(alloc: Global, line: &[u8]) -> Result<Line, PartErr>
+    ensures part { Gives event result (lines.get_at line.now) }
     ensures memory { result ≡ Err PartErr.Memory → HasKey line.now }
 {
     let rest = read_text(line, b"get t ")?;
-    let (key, rest) = read_field(alloc, rest)?;
+    let (key, rest) = read_field(alloc, MOST_LEVELS, rest)?;
     if !rest.is_empty() {
         return Err(PartErr::Bad(rest.len()));
     }
-    Ok(Command::Get(key))
+    Ok(Line::Do(Command::Get(key)))
 }
 
 /// The command whose word is this text, alone on the rest of the line.
-fn read_word(line: &[u8], text: &[u8], command: Command) -> Result<Command, PartErr>
-    ensures part { Gives order result (lines.word_at text.now (order command) line.now) }
+fn read_word(line: &[u8], text: &[u8], asked: Line) -> Result<Line, PartErr>
+    ensures part { Gives event result (lines.word_at text.now (event asked) line.now) }
     ensures memory { result ≡ Err PartErr.Memory → ⊥ }
 {
     let rest = read_text(line, text)?;
     if !rest.is_empty() {
         return Err(PartErr::Bad(rest.len()));
     }
-    Ok(command)
+    Ok(asked)
 }
 
 /// What is behind the `s` of `start` and `stop`.
 #[tactic(auto, unfolding(crate::specs::Commands::st_at))]
-fn read_st(line: &[u8]) -> Result<Command, PartErr>
-    ensures part { Gives order result (lines.st_at line.now) }
+fn read_st(line: &[u8]) -> Result<Line, PartErr>
+    ensures part { Gives event result (lines.st_at line.now) }
     ensures memory { result ≡ Err PartErr.Memory → ⊥ }
 {
     let rest = read_text(line, b"t")?;
     match rest.first() {
-        Some(b'a') => read_word(rest, b"art", Command::Start),
-        _ => read_word(rest, b"op", Command::Stop),
+        Some(b'a') => read_word(rest, b"art", Line::Start),
+        _ => read_word(rest, b"op", Line::Do(Command::Stop)),
     }
 }
 
 /// `start`, `stop` or `sync_log`, by its second byte.
 #[tactic(auto, unfolding(crate::specs::Commands::plain_at))]
-fn read_plain(line: &[u8]) -> Result<Command, PartErr>
-    ensures part { Gives order result (lines.plain_at line.now) }
+fn read_plain(line: &[u8]) -> Result<Line, PartErr>
+    ensures part { Gives event result (lines.plain_at line.now) }
     ensures memory { result ≡ Err PartErr.Memory → ⊥ }
 {
     let rest = read_text(line, b"s")?;
     match rest.first() {
-        Some(b'y') => read_word(rest, b"ync_log", Command::SyncLog),
+        Some(b'y') => read_word(rest, b"ync_log", Line::Do(Command::SyncLog)),
         _ => read_st(rest),
     }
 }
 
 /// The command of a line, by its first byte.
 #[tactic(auto, unfolding(crate::specs::Commands::command_at))]
-fn read_line(alloc: Global, line: &[u8]) -> Result<Command, PartErr>
-    ensures part { Gives order result (lines.command_at line.now) }
+fn read_line(alloc: Global, line: &[u8]) -> Result<Line, PartErr>
+    ensures part { Gives event result (lines.command_at line.now) }
     ensures memory { result ≡ Err PartErr.Memory → HasKey line.now }
 {
     match line.first() {
@@ -291,13 +287,13 @@ fn read_line(alloc: Global, line: &[u8]) -> Result<Command, PartErr>
 #[cfg(test)]
 mod tests {
     use super::*;
-    use crate::replies::{Reply, print_reply};
     use std::test::Fail;
     use std::vec;
+    use term_text::print_term;
 
     fn refused_at(alloc: Global, line: &str) -> Result<Option<u64>, AllocError> {
         match read_command(alloc, line.as_bytes())? {
-            Some(Command::Badarg(at)) => Ok(Some(at)),
+            Some(Line::Refused(at)) => Ok(Some(at)),
             _ => Ok(None),
         }
     }
@@ -350,10 +346,10 @@ mod tests {
             ("sync_logs", Some(8)),
             ("sync_log sync_log", Some(8)),
             (" start", Some(0)),
-            ("select", Some(0)),
-            ("selects", Some(1)),
             ("generate", Some(0)),
             ("generated", Some(2)),
+            ("select", Some(1)),
+            ("save_text", Some(1)),
         ];
         for (line, place) in lines {
             assert_eq!(rt; refused_at(rt.alloc(), line)?, place, "{line}");
@@ -364,16 +360,30 @@ mod tests {
     #[test]
     fn a_word_alone_gives_its_command(rt: HostRuntime) -> Result<(), Fail> {
         let alloc = rt.alloc();
-        assert!(rt; matches!(&read_command(alloc, b"start")?, Some(Command::Start)));
-        assert!(rt; matches!(&read_command(alloc, b"stop")?, Some(Command::Stop)));
-        assert!(rt; matches!(&read_command(alloc, b"sync_log")?, Some(Command::SyncLog)));
+        assert!(rt; matches!(&read_command(alloc, b"start")?, Some(Line::Start)));
+        assert!(rt;
+            matches!(
+                &read_command(alloc, b"stop")?,
+                Some(Line::Do(Command::Stop))
+            )
+        );
+        assert!(rt;
+            matches!(
+                &read_command(alloc, b"sync_log")?,
+                Some(Line::Do(Command::SyncLog))
+            )
+        );
         Ok(())
     }
 
-    // `get t ` and this byte so many times.
-    fn repeated(alloc: Global, byte: u8, count: usize) -> Result<Vec<u8>, AllocError> {
-        let mut line = Vec::new(alloc);
-        line.extend_from_slice(b"get t ")?;
+    // This front, and this byte so many times behind it.
+    fn repeated(
+        alloc: Global,
+        front: &[u8],
+        byte: u8,
+        count: usize,
+    ) -> Result<Vec<u8>, AllocError> {
+        let mut line = front.to_vec(alloc)?;
         line.extend_from_slice(&vec![in alloc; byte; count]?)?;
         Ok(line)
     }
@@ -381,22 +391,29 @@ mod tests {
     #[test]
     fn levels_and_characters_have_bounds(rt: HostRuntime) -> Result<(), Fail> {
         let alloc = rt.alloc();
+        let get: &[u8] = b"get t ";
+        let put: &[u8] = b"put t {t,";
+        let put_value: &[u8] = b"put t {t,1,";
         let fronts = [
-            (b'a', 255, None),
-            (b'a', 256, Some(261)),
-            (b'[', 100, Some(106)),
-            (b'[', 101, Some(106)),
+            (get, b'a', 255, None),
+            (get, b'a', 256, Some(261)),
+            (get, b'[', 100, Some(106)),
+            (get, b'[', 101, Some(106)),
+            (put, b'[', 99, Some(108)),
+            (put, b'[', 100, Some(108)),
+            (put_value, b'{', 99, Some(110)),
+            (put_value, b'{', 101, Some(110)),
         ];
-        for (byte, count, place) in fronts {
-            let line = repeated(alloc, byte, count)?;
+        for (front, byte, count, place) in fronts {
+            let line = repeated(alloc, front, byte, count)?;
             match read_command(alloc, &line)? {
-                Some(Command::Badarg(at)) => assert_eq!(rt; Some(at), place),
+                Some(Line::Refused(at)) => assert_eq!(rt; Some(at), place),
                 _ => assert_eq!(rt; place, None),
             }
         }
-        let mut line = repeated(alloc, b'[', 100)?;
+        let mut line = repeated(alloc, get, b'[', 100)?;
         line.resize(206, b']')?;
-        let Some(Command::Get(key)) = read_command(alloc, &line)? else {
+        let Some(Line::Do(Command::Get(key))) = read_command(alloc, &line)? else {
             assert!(rt; false);
             return Ok(());
         };
@@ -405,16 +422,29 @@ mod tests {
     }
 
     #[test]
+    fn a_record_that_is_put_has_at_most_100_levels(rt: HostRuntime) -> Result<(), Fail> {
+        let alloc = rt.alloc();
+        let mut line = repeated(alloc, b"put t {t,1,", b'[', 99)?;
+        line.resize(209, b']')?;
+        line.push(b'}')?;
+        let Some(Line::Do(Command::Put(record))) = read_command(alloc, &line)? else {
+            assert!(rt; false);
+            return Ok(());
+        };
+        assert!(rt; record.depth_within(100) && !record.depth_within(99));
+        Ok(())
+    }
+
+    #[test]
     fn a_record_is_put_whole(rt: HostRuntime) -> Result<(), Fail> {
-        let Some(Command::Put(record)) = read_command(rt.alloc(), b"put t {t,-7,and}")? else {
+        let Some(Line::Do(Command::Put(record))) = read_command(rt.alloc(), b"put t {t,-7,and}")?
+        else {
             assert!(rt; false);
             return Ok(());
         };
         let mut out = Vec::new(rt.alloc());
-        let mut records = Items::new(rt.alloc());
-        records.push(record)?;
-        print_reply(&Reply::Found(records), &mut out)?;
-        assert_eq!(rt; out.as_slice(), b"[{t,-7,'and'}]\n".as_slice());
+        print_term(&record, &mut out)?;
+        assert_eq!(rt; out.as_slice(), b"{t,-7,'and'}".as_slice());
         Ok(())
     }
 }

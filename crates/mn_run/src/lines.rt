@@ -1,22 +1,29 @@
 //! The lines of a script that comes in pieces of any size.
 
-ghost use Rattle.std.specs.Prelude.{◌≡◌, ◌≤◌, ◌<◌, ◌++◌, [], true, length, MatchOption, IsTrue, IfOk, OnOk};
-ghost use Rattle.mn_run.specs.Reading.{has_no_end, EndsAt, Added, Grows, Refills, IsFilled, FirstLine, LineCause};
+ghost use Rattle.std.specs.Prelude.{◌≡◌, ◌⊎◌, ◌≤◌, ◌<◌, ◌++◌, [], true, false, length, Ok, MatchOption, IsTrue, IfOk, OnOk};
+ghost use Rattle.mn_run.specs.Asks.{FlushesLine, IsKeptOrGone, Causes};
+ghost use Rattle.mn_run.specs.Reading.{has_no_end, EndsAt, Added, Grows, Refills, IsFilled, FirstLine};
 
-use file_trait::{Source, SrcErr};
+use crate::Status;
+use crate::gathered::flush;
+use file_trait::{Sink, Source, SrcErr};
 use std::alloc::Global;
 use std::marker::Model;
 
 /// The most bytes of a line.
 pub const MOST_LINE: usize = 1_048_576;
 
-const PIECE: usize = 4096;
+/// The most bytes of one read: 64 KiB, so that a long script takes few calls of the system. Lines may reach over
+/// pieces, so that only the speed hangs on it.
+pub const PIECE: usize = 65_536;
 
 /// Why a line could not be read.
 #[derive(Clone, Copy, Debug, PartialEq, Eq)]
 pub enum LineErr {
     /// The source failed.
     Failed,
+    /// The sink failed, to which what was gathered is written before more is read.
+    Unwritten,
     /// The line has more bytes than a line may have.
     TooLong,
     /// Memory was wanting.
@@ -26,19 +33,20 @@ pub enum LineErr {
 /// What was read of a script and not yet taken as a line.
 #[derive(Drop)]
 pub struct Lines {
-    piece: [u8; 4096],
+    piece: [u8; PIECE],
     from: usize,
     to: usize,
 }
 
 impl Model for Lines {
     ghost use Rattle.std.specs.Prelude.{List, ℕ, length, ◌-◌, ◌≤◌, slice_range};
+    ghost use Rattle.mn_run.specs.declared.lines.TheConstants.{PIECE};
 
     ghost Value = { List ℕ };
 
     ghost view = { λ l. slice_range l.piece l.from l.to };
 
-    ghost invariant = { λ l. (l.from ≤ l.to) × (l.to ≤ length l.piece) × (l.to ≤ 4096) };
+    ghost invariant = { λ l. (l.from ≤ l.to) × (l.to ≤ length l.piece) × (l.to ≤ PIECE) };
 }
 
 fn end_of(bytes: &[u8]) -> Option<usize>
@@ -83,15 +91,30 @@ impl Lines {
         }
     }
 
-    /// Reads more, where nothing is left of what was read. Whether there was more.
-    fn refill<S: Source>(&mut self, script: &mut S) -> Result<bool, LineErr>
+    /// Reads more, where nothing is left of what was read. What was gathered is written before, so that no
+    /// reply waits for more of the script. Whether there was more.
+    fn refill<S: Source, K: Sink>(
+        &mut self,
+        script: &mut S,
+        text: &mut Vec<u8>,
+        out: &mut K,
+    ) -> Result<bool, LineErr>
         ensures told { IsTrue S.tells → Refills result self.new (S.left script.old) (S.left script.new) }
         ensures filled { IsFilled result self.new }
-        ensures short { length self.new ≤ 4096 }
-        ensures cause { LineCause (S.faults script.old) (S.faults script.new) result }
+        ensures short { length self.new ≤ PIECE }
+        ensures cause { Causes LineErr.Failed (S.faults script.old) (S.faults script.new) result }
+        ensures printed { IsTrue K.tells
+            → FlushesLine result text.old.items text.new.items (K.written out.old) (K.written out.new) }
+        ensures write { Causes LineErr.Unwritten (K.faults out.old) (K.faults out.new) result }
+        ensures emptied { text.new.items ≡ [] }
     {
         self.from = 0;
         self.to = 0;
+        match flush(out, text) {
+            Ok(()) => {}
+            Err(Status::WriteFault) => return Err(LineErr::Unwritten),
+            Err(_) => return Err(LineErr::Memory),
+        }
         match script.read(&mut self.piece) {
             Ok(count) => {
                 self.to = count;
@@ -101,15 +124,25 @@ impl Lines {
         }
     }
 
-    /// The next line, where there is one.
-    pub fn next_line<S: Source>(
+    /// The next line, where there is one. What was gathered is written to the sink before the script is read.
+    pub fn next_line<S: Source, K: Sink>(
         &mut self,
         script: &mut S,
         line: &mut Vec<u8>,
+        text: &mut Vec<u8>,
+        out: &mut K,
     ) -> Result<bool, LineErr>
-        ensures line { IsTrue S.tells → FirstLine result line.new.items (self.old ++ S.left script.old) (self.new ++ S.left script.new) }
+        ensures line { IsTrue S.tells
+            → FirstLine result line.new.items (self.old ++ S.left script.old) (self.new ++ S.left script.new) }
         ensures short { OnOk result (length line.new.items ≤ MOST_LINE) }
-        ensures cause { LineCause (S.faults script.old) (S.faults script.new) result }
+        ensures cause { Causes LineErr.Failed (S.faults script.old) (S.faults script.new) result }
+        ensures printed { IsTrue K.tells
+            → FlushesLine result text.old.items text.new.items (K.written out.old) (K.written out.new) }
+        ensures write { Causes LineErr.Unwritten (K.faults out.old) (K.faults out.new) result }
+        ensures gathered { IsKeptOrGone text.old.items text.new.items }
+        // Where something is gathered still, the script was not read, and at its end nothing is.
+        ensures unread { (text.new.items ≡ []) ⊎ (script.new ≡ script.old) }
+        ensures end { result ≡ Ok false → text.new.items ≡ [] }
     {
         // Without this view the prover does not see that the piece is whole.
         let _piece = &self.piece;
@@ -118,7 +151,7 @@ impl Lines {
             if self.take_part(line)? {
                 return Ok(true);
             }
-            if !self.refill(script)? {
+            if !self.refill(script, text, out)? {
                 return Ok(!line.is_empty());
             }
         }

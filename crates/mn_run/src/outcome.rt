@@ -20,8 +20,9 @@ pub enum Status {
     DiskFault,
     /// This file has no meaning, from this place on.
     Damaged(FileName, u64),
-    /// Memory was wanting where a line was read, a reply printed or a mark taken, at the stop at the script's end, or for a start
-    /// after which the node was down at the script's end. A command that wants memory is answered.
+    /// Memory was wanting where a line was read, a reply gathered or written or a mark taken, at the stop at the
+    /// script's end, or for a start after which the node was down at the script's end. A command that wants memory is
+    /// answered.
     Memory,
     /// This line, from 1, passes a limit.
     TooLong(u64),
@@ -67,7 +68,8 @@ pub struct Mark {
 pub struct Outcome {
     /// How it ended.
     pub status: Status,
-    /// One mark after the first start, one after each command, and one after the stop at the script's end where there was one. Where
-    /// a status ended the run, what came last may have none.
+    /// One mark after the first start, one after each command, and one after the stop at the script's end where there
+    /// was one. Where a status ended the run, what came last may have none. There are none for words that are not of
+    /// the form.
     pub marks: Vec<Mark>,
 }

@@ -1,91 +1,58 @@
 //! Replies as lines.
 
-ghost use Rattle.std.specs.Prelude.{◌≡◌, ◌↔◌, ◌++◌, IsTrue, OnOk, map, codes, decimal};
+ghost use Rattle.std.specs.Prelude.{◌≡◌, ◌++◌, OnOk, OnErr, IfOk, map, codes, decimal};
 ghost use Rattle.term_core.specs.View.{tree_of, forest_of};
-ghost use Rattle.term_text.specs.Printing.{printed, trees_text};
-ghost use Rattle.mn_run.specs.Orders as orders;
+ghost use Rattle.term_text.specs.Appends.{Appends};
+ghost use Rattle.term_text.specs.Printing.{comma_before, printed, trees_text};
+ghost use Rattle.mn_node.specs.Machine.{fault, found};
+ghost use Rattle.mn_node.specs.Seen.{answer};
+ghost use Rattle.mn_run.specs.Replies as replies;
 ghost use Rattle.mn_run.specs.Replies.{text_of};
-ghost use Rattle.mn_run.specs.Seen.{answer};
-ghost use Rattle.mn_run.specs.Steps.{NamesLog};
-ghost use Rattle.txn_log.specs.Logs.{IsLogName, latest as log_name};
 
+use crate::terms::atom;
 use file_trait::FileName;
 use itoa::Buffer;
+use mn_node::Reply;
 use sqlite_items::Items;
-use std::alloc::AllocError;
+use std::alloc::{AllocError, Global};
 use term_core::Term;
 use term_text::print_term;
-use txn_log::latest;
 
-/// What the node answers.
-#[derive(Drop)]
-pub enum Reply {
-    /// The node is up. Of the commits since the start before, in this run, so many were kept: none at the first start.
-    Started(u64),
-    /// The write is done.
-    Done,
-    /// The records of a key.
-    Found(Items<Term>),
-    /// The line is no command, from this byte on.
-    Badarg(u64),
-    /// All commits are durable.
-    Synced,
-    /// The node is down, and its log is closed.
-    Stopped,
-    /// The node is down, and the command is no start.
-    Down,
-    /// The node is up, and the command is a start.
-    Up,
-    /// Memory was wanting, and nothing changed.
-    Memory,
-    /// The disk failed at this file, and the node is down.
-    Fault(FileName),
-    /// A start found that this file has no meaning, from this place on. It has no line: the run ends.
-    Damaged(FileName, u64),
+/// Adds the reply's line at the end of `out`, and nothing for damage. An error leaves `out` as it was.
+pub fn print_reply(reply: &Reply, out: &mut Vec<u8>) -> Result<(), AllocError>
+    ensures ok { OnOk result (out.new.items ≡ out.old.items ++ text_of (answer reply.now)) }
+    ensures err { OnErr result (out.new.items ≡ out.old.items) }
+{
+    let before = out.len();
+    match put_reply(reply, out) {
+        Ok(()) => Ok(()),
+        Err(AllocError) => {
+            out.truncate(before);
+            Err(AllocError)
+        }
+    }
 }
 
-/// Writes the reply's line at the end of `out`, and nothing for damage.
-/// After an error `out` may end with a part of the line.
-pub fn print_reply(reply: &Reply, out: &mut Vec<u8>) -> Result<(), AllocError>
-    requires { NamesLog (answer reply.now) }
-    ensures { OnOk result (out.new.items ≡ out.old.items ++ text_of (answer reply.now)) }
+fn put_reply(reply: &Reply, out: &mut Vec<u8>) -> Result<(), AllocError>
+    ensures { Appends result out.old.items out.new.items (text_of (answer reply.now)) }
 {
     match reply {
-        Reply::Started(count) => print_count(b"{started,", *count, out),
+        Reply::Started(count) => put_count(b"{started,", *count, out),
         Reply::Done => out.extend_from_slice(b"{atomic,ok}\n"),
-        Reply::Found(records) => print_records(records.as_slice(), out),
-        Reply::Badarg(at) => print_count(b"{badarg,", *at, out),
+        Reply::Found(records) => put_records(records.as_slice(), out),
+        Reply::Badarg(at) => put_count(b"{badarg,", *at, out),
         Reply::Synced => out.extend_from_slice(b"ok\n"),
         Reply::Stopped => out.extend_from_slice(b"stopped\n"),
         Reply::Down => out.extend_from_slice(b"{error,down}\n"),
         Reply::Up => out.extend_from_slice(b"{error,up}\n"),
         Reply::Memory => out.extend_from_slice(b"{error,memory}\n"),
-        Reply::Fault(name) => print_fault(*name, out),
+        Reply::Fault(name) => put_fault(*name, out),
         Reply::Damaged(_, _) => Ok(()),
     }
 }
 
-/// The line of a fault at one of the log's two files.
-fn print_fault(name: FileName, out: &mut Vec<u8>) -> Result<(), AllocError>
-    requires { IsLogName name }
-    ensures { OnOk result (out.new.items ≡ out.old.items ++ text_of (orders.fault name)) }
-{
-    if is_latest(name) {
-        out.extend_from_slice(b"{error,{file,'LATEST.LOG'}}\n")
-    } else {
-        out.extend_from_slice(b"{error,{file,'LATEST.LOGTMP'}}\n")
-    }
-}
-
-fn is_latest(name: FileName) -> bool
-    ensures { IsTrue result ↔ (name ≡ log_name) }
-{
-    let log = latest();
-    name.bytes() == log.bytes()
-}
-
-fn print_count(front: &[u8], count: u64, out: &mut Vec<u8>) -> Result<(), AllocError>
-    ensures { OnOk result (out.new.items ≡ out.old.items ++ (front.now ++ (decimal count ++ codes "}\n"))) }
+fn put_count(front: &[u8], count: u64, out: &mut Vec<u8>) -> Result<(), AllocError>
+    ensures { Appends result out.old.items out.new.items (front.now ++ (decimal count ++ codes "}\n")) }
 {
     out.extend_from_slice(front)?;
     out.extend_from_slice(Buffer::new().format(count).as_bytes())?;
@@ -93,29 +60,66 @@ fn print_count(front: &[u8], count: u64, out: &mut Vec<u8>) -> Result<(), AllocE
 }
 
 /// The line of the records' list, of which no term is made.
-fn print_records(records: &[Term], out: &mut Vec<u8>) -> Result<(), AllocError>
-    ensures { OnOk result (out.new.items ≡ out.old.items ++ text_of (orders.found (map tree_of records.now))) }
+fn put_records(records: &[Term], out: &mut Vec<u8>) -> Result<(), AllocError>
+    ensures { Appends result out.old.items out.new.items (text_of (found (map tree_of records.now))) }
 {
     out.extend_from_slice(b"[")?;
-    print_all(records, out)?;
+    put_all(records, out)?;
     out.extend_from_slice(b"]\n")
 }
 
 /// The records, with commas between.
-fn print_all(records: &[Term], out: &mut Vec<u8>) -> Result<(), AllocError>
-    ensures { OnOk result (out.new.items ≡ out.old.items ++ trees_text (forest_of records.now)) }
+fn put_all(records: &[Term], out: &mut Vec<u8>) -> Result<(), AllocError>
+    ensures { Appends result out.old.items out.new.items (trees_text (forest_of records.now)) }
 {
     for (i, term) in records.iter().enumerate() {
-        if i > 0 {
-            out.push(b',')?;
-        }
-        print_record(term, out)?;
+        put_next(i, term, out)?;
     }
     Ok(())
 }
 
-fn print_record(term: &Term, out: &mut Vec<u8>) -> Result<(), AllocError>
-    ensures { OnOk result (out.new.items ≡ out.old.items ++ printed (tree_of term.now)) }
+/// A record, and the comma before it, unless it is the first.
+fn put_next(i: usize, term: &Term, out: &mut Vec<u8>) -> Result<(), AllocError>
+    ensures { Appends result out.old.items out.new.items (comma_before i ++ printed (tree_of term.now)) }
+{
+    if i > 0 {
+        out.push(b',')?;
+    }
+    put_term(term, out)
+}
+
+/// The line of a fault at the file of this name.
+fn put_fault(name: FileName, out: &mut Vec<u8>) -> Result<(), AllocError>
+    ensures { Appends result out.old.items out.new.items (text_of (fault name)) }
+{
+    let error = file_error(*out.allocator(), name)?;
+    put_term(&error, out)?;
+    out.extend_from_slice(b"\n")
+}
+
+/// `{error,{file,Name}}`. The bytes of a name are ASCII, so that only memory may be wanting.
+fn file_error(alloc: Global, name: FileName) -> Result<Term, AllocError>
+    ensures { IfOk result (λ term. tree_of term ≡ replies.file_error name) }
+{
+    let Ok(text) = std::str::from_utf8(name.bytes()) else {
+        return Err(AllocError);
+    };
+    let file = tagged(alloc, "file", atom(alloc, text)?)?;
+    tagged(alloc, "error", file)
+}
+
+/// `{Name,Value}`
+fn tagged(alloc: Global, name: &str, value: Term) -> Result<Term, AllocError>
+    ensures { IfOk result (λ term. tree_of term ≡ replies.tagged name.now (tree_of value)) }
+{
+    let mut items = Items::new(alloc);
+    items.push(atom(alloc, name)?)?;
+    items.push(value)?;
+    Ok(Term::Tuple(items))
+}
+
+fn put_term(term: &Term, out: &mut Vec<u8>) -> Result<(), AllocError>
+    ensures { Appends result out.old.items out.new.items (printed (tree_of term.now)) }
 {
     match print_term(term, out) {
         Ok(()) => Ok(()),
@@ -143,14 +147,16 @@ mod tests {
             Reply::Synced,
             Reply::Down,
             Reply::Up,
-            Reply::Fault(latest()),
-            Reply::Damaged(latest(), 0),
+            Reply::Fault(FileName::new(b"LATEST.LOG").ok_or("name")?),
+            Reply::Fault(FileName::new(b"t").ok_or("name")?),
+            Reply::Damaged(FileName::new(b"LATEST.LOG").ok_or("name")?, 0),
             Reply::Found(Items::new(alloc)),
         ] {
             print_reply(&reply, &mut out)?;
         }
         let lines =
-            "{started,12}\n{atomic,ok}\n{badarg,0}\nstopped\n{error,memory}\nok\n{error,down}\n{error,up}\n{error,{file,'LATEST.LOG'}}\n[]\n";
+            "{started,12}\n{atomic,ok}\n{badarg,0}\nstopped\n{error,memory}\nok\n{error,down}\n{error,up}\n\
+            {error,{file,'LATEST.LOG'}}\n{error,{file,t}}\n[]\n";
         assert_eq!(rt; out.as_slice(), lines.as_bytes());
         Ok(())
     }

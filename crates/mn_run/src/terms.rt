@@ -16,10 +16,3 @@ pub fn atom(alloc: Global, text: &str) -> Result<Term, AllocError>
         Err(_) => Err(AllocError),
     }
 }
-
-/// A term that equals this one.
-pub fn copied(alloc: Global, term: &Term) -> Result<Term, AllocError>
-    ensures { IfOk result (λ copy. copy ≡ term.now) }
-{
-    term.try_clone(alloc).map_err(|_| AllocError)
-}

@@ -251,13 +251,13 @@ term_again (suc levels) t text rest is deep stops = begun_again levels (term_at 
 
 -- ---- the places
 
-pub stands_again : (text : List ℕ) (at behind : ℕ) (t : Tree) → Stands text at behind t → read text at ≡ Ok (t, behind)
-stands_again text at behind t stands =
+pub stands_again : (levels : ℕ) (text : List ℕ) (at behind : ℕ) (t : Tree) → Stands levels text at behind t → read levels text at ≡ Ok (t, behind)
+stands_again levels text at behind t stands =
     let order : at ≤ behind = stands.order in
     let within : behind ≤ length text = stands.within in
     let split : drop at text ≡ slice_range text at behind ++ drop behind text =
     sym (take-append-drop (behind - at) (drop at text)) ∙ ap (λ (s : List ℕ). slice_range text at behind ++ s) (drop-drop (behind - at) at text ∙ ap (λ (n : ℕ). drop n text) (let place : at + (behind - at) ≡ behind = omega arith in place)) in
-    let read_so : term_at 100 (drop at text) ≡ Ok (t, drop behind text) = ap (term_at 100) split ∙ term_again 100 t (slice_range text at behind) (drop behind text) stands.is stands.deep stands.whole in
+    let read_so : term_at levels (drop at text) ≡ Ok (t, drop behind text) = ap (term_at levels) split ∙ term_again levels t (slice_range text at behind) (drop behind text) stands.is stands.deep stands.whole in
     let place : length text - length (drop behind text) ≡ behind = omega (arith, length-drop behind text) in
     ap (with_places (length text)) read_so ∙ ap (λ (n : ℕ). Ok (t, n)) place
 

@@ -886,29 +886,29 @@ still behind grow (Bad left) whole (inr h) some = h
 still behind grow (WideInt left) whole h some = h
 still behind grow (TooDeep left) whole h some = h
 
-pub stays_refused : (more bytes : List ℕ) (f : Fault) → Fresh more → term_at 100 bytes ≡ Err f → Inside f → IsErr (term_at 100 (bytes ++ more))
-stays_refused more bytes f fresh refusal inside =
-    let cut = subst (λ (r : Result (Tree × List ℕ) Fault). Cut second (grown more) r (term_at 100 (bytes ++ more))) refusal (term_cut more fresh 100 bytes) in
-    still second (grown more) f (term_at 100 (bytes ++ more)) cut inside
+pub stays_refused : (levels : ℕ) (more bytes : List ℕ) (f : Fault) → Fresh more → term_at levels bytes ≡ Err f → Inside f → IsErr (term_at levels (bytes ++ more))
+stays_refused levels more bytes f fresh refusal inside =
+    let cut = subst (λ (r : Result (Tree × List ℕ) Fault). Cut second (grown more) r (term_at levels (bytes ++ more))) refusal (term_cut more fresh levels bytes) in
+    still second (grown more) f (term_at levels (bytes ++ more)) cut inside
 
-early : (text : List ℕ) (at : ℕ) (f : Fault) → term_at 100 (drop at text) ≡ Err f → Inside f → NoText text at
-early text at f refusal inside more fresh t deep is =
+early : (levels : ℕ) (text : List ℕ) (at : ℕ) (f : Fault) → term_at levels (drop at text) ≡ Err f → Inside f → NoText levels text at
+early levels text at f refusal inside more fresh t deep is =
     let bytes : List ℕ = drop at text ++ more in
-    let read : term_at 100 bytes ≡ Ok (t, []) = ap (term_at 100) (sym (append-nil bytes)) ∙ term_again 100 t bytes [] is deep (stops t bytes [] refl) in
+    let read : term_at levels bytes ≡ Ok (t, []) = ap (term_at levels) (sym (append-nil bytes)) ∙ term_again levels t bytes [] is deep (stops t bytes [] refl) in
     let P : Result (Tree × List ℕ) Fault → Type 0 = IsErr in
-    subst P read (stays_refused more (drop at text) f fresh refusal inside)
+    subst P read (stays_refused levels more (drop at text) f fresh refusal inside)
 
-pub is_early : (text : List ℕ) (at place : ℕ) → at ≤ length text → read text at ≡ Err (refusals.Bad place) → place < length text → NoText text at
-is_early text at place le e inside =
-    let refusal = with_places-Bad (length text) (term_at 100 (drop at text)) place e in
-    early text at (Bad refusal.0) refusal.1 (omega (arith, refusal.2))
+pub is_early : (levels : ℕ) (text : List ℕ) (at place : ℕ) → at ≤ length text → read levels text at ≡ Err (refusals.Bad place) → place < length text → NoText levels text at
+is_early levels text at place le e inside =
+    let refusal = with_places-Bad (length text) (term_at levels (drop at text)) place e in
+    early levels text at (Bad refusal.0) refusal.1 (omega (arith, refusal.2))
 
-pub is_early_wide : (text : List ℕ) (at place : ℕ) → at ≤ length text → read text at ≡ Err (refusals.WideInt place) → NoText text at
-is_early_wide text at place le e =
-    let refusal = with_places-WideInt (length text) (term_at 100 (drop at text)) place e in
-    early text at (WideInt refusal.0) refusal.1 tt
+pub is_early_wide : (levels : ℕ) (text : List ℕ) (at place : ℕ) → at ≤ length text → read levels text at ≡ Err (refusals.WideInt place) → NoText levels text at
+is_early_wide levels text at place le e =
+    let refusal = with_places-WideInt (length text) (term_at levels (drop at text)) place e in
+    early levels text at (WideInt refusal.0) refusal.1 tt
 
-pub is_early_deep : (text : List ℕ) (at place : ℕ) → at ≤ length text → read text at ≡ Err (refusals.TooDeep place) → NoText text at
-is_early_deep text at place le e =
-    let refusal = with_places-TooDeep (length text) (term_at 100 (drop at text)) place e in
-    early text at (TooDeep refusal.0) refusal.1 tt
+pub is_early_deep : (levels : ℕ) (text : List ℕ) (at place : ℕ) → at ≤ length text → read levels text at ≡ Err (refusals.TooDeep place) → NoText levels text at
+is_early_deep levels text at place le e =
+    let refusal = with_places-TooDeep (length text) (term_at levels (drop at text)) place e in
+    early levels text at (TooDeep refusal.0) refusal.1 tt

@@ -252,8 +252,8 @@ with_places-Ok : (end : ℕ) (r : Result (Tree × List ℕ) Fault) (y : Tree × 
 with_places-Ok end (Ok x) y e = (x, refl, cc, cc)
 with_places-Ok end (Err f) y e = absurd cc
 
-stands_at : (text : List ℕ) (at : ℕ) (x : Tree × List ℕ) → at ≤ length text → IsRead 100 (drop at text) x → Stands text at (length text - length x.1) x.0
-stands_at text at x le found =
+stands_at : (levels : ℕ) (text : List ℕ) (at : ℕ) (x : Tree × List ℕ) → at ≤ length text → IsRead levels (drop at text) x → Stands levels text at (length text - length x.1) x.0
+stands_at levels text at x le found =
     let size : length text - at ≡ length found.text + length x.1 = sym (length-drop at text) ∙ ap length found.parts ∙ length-append found.text x.1 in
     let count : (length text - length x.1) - at ≡ length found.text = omega arith in
     let front : slice_range text at (length text - length x.1) ≡ found.text = ap (λ (n : ℕ). take n (drop at text)) count ∙ ap (take (length found.text)) found.parts ∙ take_at found.text x.1 (length found.text) refl in
@@ -267,11 +267,11 @@ stands_at text at x le found =
       whole = rw (front, behind) found.whole;
     }
 
-pub is_found : (text : List ℕ) (at : ℕ) (y : Tree × ℕ) → at ≤ length text → read text at ≡ Ok y → Stands text at y.1 y.0
-is_found text at y le e =
-    let x = with_places-Ok (length text) (term_at 100 (drop at text)) y e in
-    subst (λ (b : ℕ). Stands text at b y.0) x.3 (subst (Stands text at (length text - length x.0.1)) x.2 (stands_at text at x.0 le (term_is 100 (drop at text) x.0 x.1)))
+pub is_found : (levels : ℕ) (text : List ℕ) (at : ℕ) (y : Tree × ℕ) → at ≤ length text → read levels text at ≡ Ok y → Stands levels text at y.1 y.0
+is_found levels text at y le e =
+    let x = with_places-Ok (length text) (term_at levels (drop at text)) y e in
+    subst (λ (b : ℕ). Stands levels text at b y.0) x.3 (subst (Stands levels text at (length text - length x.0.1)) x.2 (stands_at levels text at x.0 le (term_is levels (drop at text) x.0 x.1)))
 
-pub answer_found : (text : List ℕ) (at : ℕ) (r : Result (Term × ℕ) TextErr) → at ≤ length text → Answers r (read text at) → IfOk r (λ x. Stands text at x.1 (tree_of x.0))
-answer_found text at (Ok x) le given = is_found text at (tree_of x.0, x.1) le given
-answer_found text at (Err e) le given = tt
+pub answer_found : (levels : ℕ) (text : List ℕ) (at : ℕ) (r : Result (Term × ℕ) TextErr) → at ≤ length text → Answers r (read levels text at) → IfOk r (λ x. Stands levels text at x.1 (tree_of x.0))
+answer_found levels text at (Ok x) le given = is_found levels text at (tree_of x.0, x.1) le given
+answer_found levels text at (Err e) le given = tt

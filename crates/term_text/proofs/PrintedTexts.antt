@@ -111,8 +111,8 @@ mutual
 
 -- ---- and is read again
 
-pub printed_again : (t : Tree) (front rest : List ℕ) → IsKept t → depth t ≤ 100 → Stops t (printed t) rest → read (front ++ (printed t ++ rest)) (length front) ≡ Ok (t, length front + length (printed t))
-printed_again t front rest kept deep whole =
+pub printed_again : (levels : ℕ) (t : Tree) (front rest : List ℕ) → IsKept t → depth t ≤ levels → Stops t (printed t) rest → read levels (front ++ (printed t ++ rest)) (length front) ≡ Ok (t, length front + length (printed t))
+printed_again levels t front rest kept deep whole =
     let text : List ℕ = front ++ (printed t ++ rest) in
     let from : drop (length front) text ≡ printed t ++ rest = drop_at front (printed t ++ rest) (length front) refl in
     let count : (length front + length (printed t)) - length front ≡ length (printed t) = omega arith in
@@ -120,7 +120,7 @@ printed_again t front rest kept deep whole =
     ap (λ (n : ℕ). take n (drop (length front) text)) count ∙ ap (take (length (printed t))) from ∙ take_at (printed t) rest (length (printed t)) refl in
     let behind : drop (length front + length (printed t)) text ≡ rest =
     sym (drop-drop (length (printed t)) (length front) text) ∙ ap (drop (length (printed t))) from ∙ drop_at (printed t) rest (length (printed t)) refl in
-    stands_again text (length front) (length front + length (printed t)) t (record {
+    stands_again levels text (length front) (length front + length (printed t)) t (record {
       order = omega arith;
       within = omega (arith, length-append front (printed t ++ rest), length-append (printed t) rest);
       is = let P : List ℕ → Type 0 = IsText t in subst P (sym here) (printed_is t kept);

@@ -349,20 +349,20 @@ with_places-TooDeep end (Err (Bad left)) place e = absurd cc
 with_places-TooDeep end (Err (WideInt left)) place e = absurd cc
 with_places-TooDeep end (Err (TooDeep left)) place e = (left, refl, cc)
 
-late : (text : List ℕ) (at place : ℕ) (d : Fault) → at ≤ length text → term_at 100 (drop at text) ≡ Err d → length text - left_of d ≡ place → IsLate text at place
-late text at place d le refusal there =
-    let stuck = term_refused 100 (drop at text) d refusal in
+late : (levels : ℕ) (text : List ℕ) (at place : ℕ) (d : Fault) → at ≤ length text → term_at levels (drop at text) ≡ Err d → length text - left_of d ≡ place → IsLate text at place
+late levels text at place d le refusal there =
+    let stuck = term_refused levels (drop at text) d refusal in
     let v = stuck.viable in
     let size : length text - at ≡ length stuck.front + left_of d = sym (length-drop at text) ∙ ap length stuck.parts ∙ length-append stuck.front stuck.back ∙ ap (λ (n : ℕ). length stuck.front + n) stuck.size in
     let count : place - at ≡ length stuck.front = omega (arith, size, there) in
     let front : slice_range text at place ≡ stuck.front = ap (λ (n : ℕ). take n (drop at text)) count ∙ ap (take (length stuck.front)) stuck.parts ∙ take_at stuck.front stuck.back (length stuck.front) refl in
     record { order = omega (arith, size, there); within = omega (arith, there); front = (v.kept, v.escape, v.more, v.value, front ∙ v.parts, v.open_end, v.is) }
 
-pub is_late : (text : List ℕ) (at place : ℕ) → at ≤ length text → read text at ≡ Err (refusals.Bad place) → IsLate text at place
-is_late text at place le e = let refusal = with_places-Bad (length text) (term_at 100 (drop at text)) place e in late text at place (Bad refusal.0) le refusal.1 refusal.2
+pub is_late : (levels : ℕ) (text : List ℕ) (at place : ℕ) → at ≤ length text → read levels text at ≡ Err (refusals.Bad place) → IsLate text at place
+is_late levels text at place le e = let refusal = with_places-Bad (length text) (term_at levels (drop at text)) place e in late levels text at place (Bad refusal.0) le refusal.1 refusal.2
 
-pub is_late_wide : (text : List ℕ) (at place : ℕ) → at ≤ length text → read text at ≡ Err (refusals.WideInt place) → IsLate text at place
-is_late_wide text at place le e = let refusal = with_places-WideInt (length text) (term_at 100 (drop at text)) place e in late text at place (WideInt refusal.0) le refusal.1 refusal.2
+pub is_late_wide : (levels : ℕ) (text : List ℕ) (at place : ℕ) → at ≤ length text → read levels text at ≡ Err (refusals.WideInt place) → IsLate text at place
+is_late_wide levels text at place le e = let refusal = with_places-WideInt (length text) (term_at levels (drop at text)) place e in late levels text at place (WideInt refusal.0) le refusal.1 refusal.2
 
-pub is_late_deep : (text : List ℕ) (at place : ℕ) → at ≤ length text → read text at ≡ Err (refusals.TooDeep place) → IsLate text at place
-is_late_deep text at place le e = let refusal = with_places-TooDeep (length text) (term_at 100 (drop at text)) place e in late text at place (TooDeep refusal.0) le refusal.1 refusal.2
+pub is_late_deep : (levels : ℕ) (text : List ℕ) (at place : ℕ) → at ≤ length text → read levels text at ≡ Err (refusals.TooDeep place) → IsLate text at place
+is_late_deep levels text at place le e = let refusal = with_places-TooDeep (length text) (term_at levels (drop at text)) place e in late levels text at place (TooDeep refusal.0) le refusal.1 refusal.2

@@ -88,10 +88,10 @@ term_wide : (levels : ℕ) (text more : List ℕ) → IsWide text → term_at (s
 unfolding term_at
 term_wide levels text more wide = begun_wide (term_at levels) levels text more wide ∙ number_wide text more wide
 
-pub wide_refused : (front text more : List ℕ) → IsWide text → read (front ++ (text ++ more)) (length front) ≡ Err (refusals.WideInt (length front))
-wide_refused front text more wide =
+pub wide_refused : (levels : ℕ) (front text more : List ℕ) → IsWide text → read (suc levels) (front ++ (text ++ more)) (length front) ≡ Err (refusals.WideInt (length front))
+wide_refused levels front text more wide =
     let bytes : List ℕ = text ++ more in
     let from : drop (length front) (front ++ bytes) ≡ bytes = drop_at front bytes (length front) refl in
-    let refusal : term_at 100 (drop (length front) (front ++ bytes)) ≡ Err (WideInt (length bytes)) = ap (term_at 100) from ∙ term_wide 99 text more wide in
+    let refusal : term_at (suc levels) (drop (length front) (front ++ bytes)) ≡ Err (WideInt (length bytes)) = ap (term_at (suc levels)) from ∙ term_wide levels text more wide in
     let place : length (front ++ bytes) - length bytes ≡ length front = omega (arith, length-append front bytes) in
     ap (with_places (length (front ++ bytes))) refusal ∙ ap (λ (n : ℕ). Err (refusals.WideInt n)) place

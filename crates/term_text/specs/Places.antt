@@ -10,12 +10,12 @@ use Rattle.term_text.specs.declared.fault.Fault.TheVariants as fault
 use Rattle.term_text.specs.declared.error.TextErr.{TextErr}
 use Rattle.term_text.specs.declared.error.TextErr.TheVariants.{Bad, WideInt, TooDeep, Memory}
 
--- Between these two places stands a text of the tree, which has at most 100 levels. What follows is no part of it.
-pub record Stands (text : List ℕ) (at behind : ℕ) (t : Tree) : Type 0 where
+-- Between these two places stands a text of the tree, which has at most so many levels. What follows is no part of it.
+pub record Stands (levels : ℕ) (text : List ℕ) (at behind : ℕ) (t : Tree) : Type 0 where
   pub order : at ≤ behind
   pub within : behind ≤ length text
   pub is : IsText t (slice_range text at behind)
-  pub deep : depth t ≤ 100
+  pub deep : depth t ≤ levels
   pub whole : Stops t (slice_range text at behind) (drop behind text)
 
 -- how many bytes are left where a fault is
@@ -34,9 +34,9 @@ abbrev pub with_places : ℕ → Result (Tree × List ℕ) Fault → Result (Tre
 with_places end (Ok x) = Ok (x.0, end - length x.1)
 with_places end (Err f) = Err (placed end f)
 
--- the tree at this place and the place behind it, or the first refusal
-abbrev pub read : List ℕ → ℕ → Result (Tree × ℕ) TextErr
-read text at = with_places (length text) (term_at 100 (drop at text))
+-- the tree of at most so many levels at this place and the place behind it, or the first refusal
+abbrev pub read : ℕ → List ℕ → ℕ → Result (Tree × ℕ) TextErr
+read levels text at = with_places (length text) (term_at levels (drop at text))
 
 -- What a function returned is what reading gives, unless memory ran out.
 abbrev pub Refuses : TextErr → Result (Tree × ℕ) TextErr → Type 0

@@ -24,9 +24,11 @@ pub record IsLate (text : List ℕ) (at place : ℕ) : Type 0 where
 abbrev pub continues : ℕ → Bool
 continues byte = is_in_range 128 191 byte
 
--- What stands from this place on is no text of a term of at most 100 levels, whatever follows that continues no character.
-abbrev pub NoText : List ℕ → ℕ → Type 0
-NoText text at = (more : List ℕ) → begins continues more ≡ false → (t : Tree) → depth t ≤ 100 → IsText t (drop at text ++ more) → ⊥
+-- What stands from this place on is no text of a term of at most so many levels, whatever follows that continues no
+-- character.
+abbrev pub NoText : ℕ → List ℕ → ℕ → Type 0
+NoText levels text at =
+    (more : List ℕ) → begins continues more ≡ false → (t : Tree) → depth t ≤ levels → IsText t (drop at text ++ more) → ⊥
 
 -- the text of a number that needs more than 128 bits: digits with no zero in front, and a `-` before them where it is below 0
 abbrev pub IsWide : List ℕ → Type 0

@@ -7,7 +7,7 @@ pub enum TextErr {
     Bad(usize),
     /// The number at this place does not fit 128 bits.
     WideInt(usize),
-    /// What begins at this place is on level 101.
+    /// What begins at this place is on a level too many.
     TooDeep(usize),
     /// Memory ran out.
     Memory,

@@ -18,7 +18,7 @@ pub use laws::{
     one_tree, printed_is_read, printed_is_text, refused_early, refused_late, refused_wide,
 };
 pub use printing::print_term;
-pub use reading::read_term;
+pub use reading::{read_term, read_term_within};
 
 #[cfg(test)]
 mod tests;

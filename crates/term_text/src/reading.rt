@@ -18,28 +18,46 @@ use sqlite_items::Items;
 use std::alloc::Global;
 use term_core::{Atom, Term, TermErr};
 
-/// The levels of the deepest term.
+/// The levels of the deepest term that stands alone.
 const MOST_LEVELS: u32 = 100;
 
 /// Reads the term that begins at this place, and answers it and the place behind its last byte.
 pub fn read_term(alloc: Global, text: &[u8], at: usize) -> Result<(Term, usize), TextErr>
     requires { at ≤ length text.now }
     // What is read stands there, up to the place that is answered.
-    ensures found { IfOk result (λ x. Stands text.now at x.1 (tree_of x.0)) }
+    ensures found { IfOk result (λ x. Stands 100 text.now at x.1 (tree_of x.0)) }
     // What stands there is read, unless memory runs out.
-    ensures only { (t : Tree) (behind : ℕ) → Stands text.now at behind t → Answers result (Ok (t, behind)) }
+    ensures only { (t : Tree) (behind : ℕ) → Stands 100 text.now at behind t → Answers result (Ok (t, behind)) }
     // Which refusal it is, and at which place.
-    ensures exact { Answers result (read text.now at) }
+    ensures exact { Answers result (read 100 text.now at) }
 {
-    read_from(alloc, text, at)
+    read_term_within(alloc, MOST_LEVELS, text, at)
 }
 
-fn read_from(alloc: Global, text: &[u8], at: usize) -> Result<(Term, usize), TextErr>
+/// The same of a term of at most so many levels, as one within another term has fewer.
+pub fn read_term_within(
+    alloc: Global,
+    levels: u32,
+    text: &[u8],
+    at: usize,
+) -> Result<(Term, usize), TextErr>
     requires { at ≤ length text.now }
-    ensures { Answers result (read text.now at) }
+    // What is read stands there, up to the place that is answered.
+    ensures found { IfOk result (λ x. Stands levels text.now at x.1 (tree_of x.0)) }
+    // What stands there is read, unless memory runs out.
+    ensures only { (t : Tree) (behind : ℕ) → Stands levels text.now at behind t → Answers result (Ok (t, behind)) }
+    // Which refusal it is, and at which place.
+    ensures exact { Answers result (read levels text.now at) }
+{
+    read_from(alloc, levels, text, at)
+}
+
+fn read_from(alloc: Global, levels: u32, text: &[u8], at: usize) -> Result<(Term, usize), TextErr>
+    requires { at ≤ length text.now }
+    ensures { Answers result (read levels text.now at) }
 {
     let (_, bytes) = text.split_at(at);
-    match term_of(alloc, MOST_LEVELS, bytes) {
+    match term_of(alloc, levels, bytes) {
         Ok((term, rest)) => Ok((term, text.len() - rest.len())),
         Err(ReadErr::Fault(fault)) => Err(place(fault, text.len())),
         Err(ReadErr::Memory) => Err(TextErr::Memory),

@@ -1,6 +1,6 @@
 //! Texts of terms, and bytes that are none.
 
-use crate::{TextErr, print_term, read_term};
+use crate::{TextErr, print_term, read_term, read_term_within};
 use std::alloc::Global;
 use std::test::Fail;
 
@@ -195,6 +195,15 @@ fn levels(rt: HostRuntime) -> Result<(), Fail> {
         let text = format!(in rt.alloc(); "{opening}{inner}{closing}")?;
         let (_, end) = printed_again(rt.alloc(), text.as_bytes())?;
         assert_eq!(rt; end, text.len(), "{inner}");
+    }
+    for levels in 2..4 {
+        let refusal = read_term_within(rt.alloc(), levels, b"[[1]]", 0).err();
+        let expected = if levels == 2 {
+            Some(TextErr::TooDeep(2))
+        } else {
+            None
+        };
+        assert_eq!(rt; refusal, expected);
     }
     Ok(())
 }

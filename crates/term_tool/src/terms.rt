@@ -15,7 +15,7 @@ use term_wire::encode;
 
 /// The term that a whole line is a text of.
 pub fn term_of(alloc: Global, line: &[u8]) -> Option<Term>
-    ensures { IfSome result (λ term. Stands line.now 0 (length line.now) (tree_of term)) }
+    ensures { IfSome result (λ term. Stands 100 line.now 0 (length line.now) (tree_of term)) }
 {
     match read_term(alloc, line, 0) {
         Ok((term, end)) if end == line.len() => Some(term),

@@ -1,12 +1,11 @@
 -- The bytes of a spelling are bytes.
 use Rattle.std.proofs.Common.{◌≡◌, ℕ, zero, suc, ◌+◌, ◌/◌, ◌%◌, ◌<◌, ◌≤◌, Bool, true, false, cond, ltb, pos, negsuc, List, [], ◌∷◌, ◌++◌, ℤ, refl, sym, subst, arith, inl, inr, ◌⊎◌}
-use Rattle.std.specs.Prelude.{IsTrue, ◌&&◌}
 use Rattle.std.specs.Int.{Width, w8, w16, w32, byte_len, to_be_bytes, bytes_high_first, byte_at}
 use Rattle.std.specs.Str.{IsUtf8, encode_utf8_all}
 use Rattle.std.proofs.Math.Utf8.{scalar, scalars, encode, next, scalar_cases}
 use Rattle.std.proofs.lemmas.Bool.{ltb-true}
 use Rattle.std.proofs.lemmas.Nat.{mod_below, div_below}
-use Rattle.std.proofs.lemmas.List.Elements.{All-nil, All-cons, All-append, All-get_or}
+use Rattle.std.proofs.lemmas.List.Elements.{All-nil, All-cons, All-append}
 use Rattle.term_core.specs.Tree.{Tree, int, atom, tuple, list, bin, Trees, no_trees, tree, count}
 use Rattle.term_core.specs.Written.{is_byte, byte_of, all_bytes, bytes_of}
 use Rattle.term_core.specs.Kept.{IsKept, AreKept}

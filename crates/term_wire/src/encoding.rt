@@ -1,9 +1,9 @@
 //! The text of a term.
 
-ghost use Rattle.std.specs.Prelude.{◌≡◌, ◌≤◌, ◌<◌, ◌^◌, ◌↔◌, ◌++◌, length, OnOk, OnErr};
+ghost use Rattle.std.specs.Prelude.{◌≡◌, ◌≤◌, ◌<◌, ◌^◌, ◌↔◌, ◌++◌, length, OnOk, OnErr, IsErrOf};
 ghost use Rattle.term_core.specs.Tree.{depth};
 ghost use Rattle.term_core.specs.View.{tree_of};
-ghost use Rattle.term_core.specs.Written.{canon};
+ghost use Rattle.term_core.specs.Written.{canon, written};
 ghost use Rattle.term_core.specs.Kept.{IsKept};
 ghost use Rattle.term_wire.specs.Appends.{Appends};
 ghost use Rattle.term_wire.specs.Spelling.{IsText};
@@ -41,6 +41,26 @@ pub fn encode(term: &Term, out: &mut Vec<u8>) -> Result<(), EncodeErr>
     let before = out.len();
     if put_text(term, out).is_err() {
         out.truncate(before);
+        return Err(EncodeErr::Memory);
+    }
+    Ok(())
+}
+
+/// Puts what is written of a term behind the bytes of `out`: its text without byte 131, as it stands inside of other
+/// texts. A term is too long where its own text would be, and never too deep. An error leaves `out` as it was.
+pub fn put_term(term: &Term, out: &mut Vec<u8>) -> Result<(), EncodeErr>
+    ensures ok { OnOk result (out.new.items ≡ out.old.items ++ written (tree_of term.now)) }
+    ensures kept { OnOk result (IsKept (tree_of term.now)) }
+    ensures err { OnErr result (out.new.items ≡ out.old.items) }
+    ensures too_long { (result ≡ Err EncodeErr.TooLong) ↔ (2 ^ 28 < length (canon (tree_of term.now))) }
+    ensures never { IsErrOf result EncodeErr.TooDeep → ⊥ }
+{
+    if wire_len(term) > MOST_BYTES {
+        return Err(EncodeErr::TooLong);
+    }
+    let front = out.len();
+    if put(term, out).is_err() {
+        out.truncate(front);
         return Err(EncodeErr::Memory);
     }
     Ok(())

@@ -16,9 +16,10 @@ mod tag;
 mod write;
 
 pub use decoding::{decode, one_tree, written_text};
-pub use encoding::encode;
+pub use encoding::{encode, put_term};
 pub use error::{EncodeErr, WireErr};
 pub use term_core::wire_len;
+pub use write::put_atom;
 
 #[cfg(test)]
 mod tests;

@@ -1,6 +1,6 @@
 //! Texts made by hand from the format's description, and bytes that are no text.
 
-use crate::{WireErr, decode, encode};
+use crate::{WireErr, decode, encode, put_atom, put_term};
 use sqlite_items::Items;
 use std::alloc::{AllocError, Global};
 use std::test::Fail;
@@ -93,6 +93,17 @@ fn spellings(rt: HostRuntime) -> Result<(), Fail> {
         encode(&decode(rt.alloc(), bytes)?, &mut out)?;
         assert_eq!(rt; out.as_slice(), written, "{bytes:?}");
     }
+    Ok(())
+}
+
+#[test]
+fn put_together(rt: HostRuntime) -> Result<(), Fail> {
+    // {a,"A"}
+    let mut text = vec![in rt.alloc(); 131, 104, 2]?;
+    put_atom(&Atom::new(rt.alloc(), "a")?, &mut text)?;
+    put_term(&decode(rt.alloc(), &[131, 107, 0, 1, 65])?, &mut text)?;
+    let written: &[u8] = &[131, 104, 2, 119, 1, 97, 107, 0, 1, 65];
+    assert_eq!(rt; text.as_slice(), written);
     Ok(())
 }
 

@@ -2,8 +2,8 @@
 
 ghost use Rattle.std.specs.Prelude.{◌≡◌, ◌≤◌, ◌<◌, ◌^◌, ◌∷◌, ◌++◌, [], length, true, OnOk};
 ghost use Rattle.std.specs.Int.{w16, w32, to_be_bytes, from_bool};
-ghost use Rattle.std.specs.Str.{chars};
-ghost use Rattle.term_core.specs.Tree.{int, atom, tuple, list, bin};
+ghost use Rattle.term_core.specs.Tree as trees;
+ghost use Rattle.term_core.specs.Tree.{int, tuple, list, bin};
 ghost use Rattle.term_core.specs.View.{tree_of, forest_of};
 ghost use Rattle.term_core.specs.Written.{written, all_written, all_bytes, bytes_of, tuple_front};
 ghost use Rattle.term_core.specs.Kept.{IsKept, AreKept};
@@ -11,7 +11,7 @@ ghost use Rattle.term_wire.specs.Appends.{Appends};
 
 use crate::tag;
 use std::alloc::AllocError;
-use term_core::{Term, fits_byte, fits_word, is_string, small_in, without_noughts};
+use term_core::{Atom, Term, fits_byte, fits_word, is_string, small_in, without_noughts};
 
 #[cycle(write)]
 pub fn put(term: &Term, out: &mut Vec<u8>) -> Result<(), AllocError>
@@ -21,7 +21,7 @@ pub fn put(term: &Term, out: &mut Vec<u8>) -> Result<(), AllocError>
 {
     match term {
         Term::Int(number) => put_number(*number, out),
-        Term::Atom(atom) => put_atom(atom.text(), out),
+        Term::Atom(atom) => put_atom(atom, out),
         Term::Tuple(items) => put_tuple(items.as_slice(), out),
         Term::List(items) => put_list(items.as_slice(), out),
         Term::Bin(bytes) => put_binary(bytes.as_slice(), out),
@@ -52,11 +52,12 @@ fn put_wide(negative: bool, digits: &[u8], out: &mut Vec<u8>) -> Result<(), Allo
     out.extend_from_slice(digits)
 }
 
-fn put_atom(text: &str, out: &mut Vec<u8>) -> Result<(), AllocError>
-    requires { length (chars text.now) ≤ 255 }
-    ensures adds { Appends result out.old.items out.new.items (written (atom text.now)) }
-    ensures kept { OnOk result (IsKept (atom text.now)) }
+/// Puts what is written of an atom behind the bytes of `out`. Where memory is wanting some of it may stand there.
+pub fn put_atom(atom: &Atom, out: &mut Vec<u8>) -> Result<(), AllocError>
+    ensures adds { Appends result out.old.items out.new.items (written (trees.atom atom.now)) }
+    ensures kept { OnOk result (IsKept (trees.atom atom.now)) }
 {
+    let text = atom.text();
     if text.len() <= 255 {
         out.extend_from_slice(&[tag::SMALL_ATOM_UTF8, text.len() as u8])?;
     } else {

@@ -13,7 +13,6 @@ use Rattle.log_items.specs.Items.{item_bytes, wire, log_bytes, IsContent, AreCon
 use Rattle.log_items.proofs.ItemLemmas.{same_item, log_bytes-append}
 use Rattle.log_items.proofs.Unique.{written}
 use Rattle.disk_logs.specs.Crash.{HasPrefix, Stands, IsSound, LogLeaves}
-use Rattle.disk_logs.specs.Errors.{OnlyFileOrMemory}
 use Rattle.disk_logs.specs.Logs.{Handle, file_of, opened, with_mark, IsLog, AreItems, HasAppended, HasMarked}
 use Rattle.disk_logs.specs.declared.error.LogErr.{LogErr}
 use Rattle.disk_logs.specs.declared.error.LogErr.TheVariants.{File, Bad, TooLong, Memory}
@@ -29,10 +28,6 @@ on_ok (Err error) f h = tt
 pub any_ok : {P : Type 0} (r : Result Unit LogErr) → P → OnOk r P
 any_ok (Ok done) h = h
 any_ok (Err error) h = tt
-
--- such an error names no wrong place
-pub only_bad : (error : LogErr) (other : List ℕ) (at : ℕ) → OnlyFileOrMemory {T = Handle} (Err error) → error ≡ Bad other at → ⊥
-only_bad error other at only is = subst (λ e. OnlyFileOrMemory {T = Handle} (Err e)) is only
 
 -- ---- what a crash leaves
 

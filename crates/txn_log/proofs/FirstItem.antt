@@ -49,7 +49,7 @@ no_first items none first others is head = absurd (omega (arith, none, ap length
 -- ---- the text that is written
 
 -- an atom of ASCII has as many characters as bytes
-ascii_kept : (text : List ℕ) → IsAscii text → length text ≤ 255 → IsKept (atom text)
+pub ascii_kept : (text : List ℕ) → IsAscii text → length text ≤ 255 → IsKept (atom text)
 ascii_kept text ascii short = (IsUtf8-from_ascii text ascii, omega (arith, ap length (chars-IsAscii text ascii), short))
 
 pub text_of_head : IsHead head_text

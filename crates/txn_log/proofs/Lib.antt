@@ -1,9 +1,13 @@
 pub mod Acts
+pub mod CallerLemmas
 pub mod CommitLists
+pub mod CommitText
 pub mod CommitsRead
 pub mod Counts
+pub mod Decided
 pub mod FirstItem
 pub mod LogName
 pub mod Making
 pub mod OneLog
 pub mod Opening
+pub mod Reading

@@ -11,10 +11,9 @@ use Rattle.log_items.proofs.Unique.{written}
 use Rattle.disk_logs.specs.Crash.{Stands, DraftStands, IsSound, OldOrWhole}
 use Rattle.disk_logs.specs.Logs.{Handle, draft_name, IsKept, IsMoved}
 use Rattle.disk_logs.specs.declared.error.LogErr.{LogErr}
-use Rattle.disk_logs.specs.declared.error.LogErr.TheVariants.{Bad}
 use Rattle.db_model.specs.Commits.{CommitRecord}
 use Rattle.txn_log.specs.Commits.{head_text}
-use Rattle.txn_log.specs.Logs.{latest, LogState, handle, Reads, IsWrong, TxnStands, OldOrCommits, IsLogName}
+use Rattle.txn_log.specs.Logs.{latest, LogState, handle, Reads, TxnStands, OldOrCommits, IsLogName}
 use Rattle.txn_log.specs.Opens.{Opens}
 use Rattle.txn_log.proofs.Acts.{touches_more, txn_synced, handle_of}
 use Rattle.txn_log.proofs.FirstItem.{text_of_head, head_fits}
@@ -75,18 +74,14 @@ module _ (old mid : Past) (name : List ℕ) (name_is : name ≡ latest) (absent 
   draft_touches = touches_more (λ n. n ≡ draft_name name) IsLogName old mid (λ n at. inr (at ∙ ap draft_name name_is)) touched
 
   -- it was not made
-  pub no_draft : (error : LogErr) → ((other : List ℕ) (at : ℕ) → error ≡ Bad other at → ⊥) → ((other : List ℕ) → (other ≡ draft_name name → ⊥) → reads mid other ≡ reads old other) → Opens old mid (Err error)
-  no_draft error never others = record {
+  pub no_draft : (error : LogErr) → ((other : List ℕ) → (other ≡ draft_name name → ⊥) → reads mid other ≡ reads old other) → Opens old mid (Err error)
+  no_draft error others = record {
     log = tt;
     opened = λ commits has. tt;
     kept = λ commits has. subst (Reads commits) (sym (others latest other_name)) has;
     stands = λ commits has settled sound. tt;
     any_moment = λ commits has settled. subst (λ cs. Moments (OldOrCommits old cs) old mid) (sym (no_commits commits (reads old latest) absent has)) (draft_moments settled);
     sound = λ sound. draft_sound;
-    trusted = λ items fit closed. absurd (cc (closed, absent));
-    bad = λ other at is. absurd (never other at (cc));
-    wrong = λ at wrong. tt;
-    refused = λ other at is. absurd (never other at (cc));
     touches = draft_touches;
   }
 
@@ -143,9 +138,9 @@ module _ (old mid : Past) (name : List ℕ) (name_is : name ≡ latest) (absent 
     moved_reads : IsMoved (draft_name draft.name) draft.name mid new → reads new latest ≡ Some (log_bytes true (head_text ∷ []))
     moved_reads moved = ap (reads new) (sym draft_is_latest) ∙ moved.0 ∙ draft_here
 
-    pub not_published : (error : LogErr) → ((other : List ℕ) (at : ℕ) → error ≡ Bad other at → ⊥)
+    pub not_published : (error : LogErr)
         → IsKept (draft_name draft.name) draft.name mid new ⊎ IsMoved (draft_name draft.name) draft.name mid new → Opens old new (Err error)
-    not_published error never left = record {
+    not_published error left = record {
       log = tt;
       opened = λ commits has. tt;
       kept = λ commits has. elim left [
@@ -155,10 +150,6 @@ module _ (old mid : Past) (name : List ℕ) (name_is : name ≡ latest) (absent 
       stands = λ commits has settled sound. tt;
       any_moment = made_moments;
       sound = λ sound. made_sound;
-      trusted = λ items fit closed. absurd (cc (closed, absent));
-      bad = λ other at is. absurd (never other at (cc));
-      wrong = λ at wrong. tt;
-      refused = λ other at is. absurd (never other at (cc));
       touches = made_touches;
     }
 
@@ -178,10 +169,6 @@ module _ (old mid : Past) (name : List ℕ) (name_is : name ≡ latest) (absent 
           (stands (head_text ∷ []) head_fits draft_stands));
       any_moment = made_moments;
       sound = λ sound. made_sound;
-      trusted = λ items fit closed. absurd (cc (closed, absent));
-      bad = λ other at never. absurd (cc);
-      wrong = λ at wrong. never_wrong at wrong;
-      refused = λ other at never. absurd (cc);
       touches = made_touches;
     }
       where
@@ -190,6 +177,3 @@ module _ (old mid : Past) (name : List ℕ) (name_is : name ≡ latest) (absent 
 
         log_is : log ≡ handle (new_state log)
         log_is = handle_of log 0 (ap (λ (l : Handle). l.name) is ∙ draft_is_latest) (ap (λ (l : Handle). l.draft) is)
-
-        never_wrong : (at : ℕ) → IsWrong at (reads old latest) → ⊥
-        never_wrong at (bytes, there, bad) = cc (there, absent)

@@ -1,44 +1,21 @@
 -- The log that was read is opened.
-use Rattle.std.proofs.Common.{◌≡◌, ◌⊎◌, ℕ, suc, List, ◌++◌, length, Bool, true, false, not, Some, Result, Ok, Err, refl, sym, ap, ◌∙◌, subst, inl, inr}
+use Rattle.std.proofs.Common.{◌≡◌, ◌⊎◌, ℕ, ◌+◌, List, ◌++◌, length, Bool, true, false, not, Some, Ok, Err, refl, sym, ap, ◌∙◌, subst, inl, inr, arith}
 use Rattle.file_trait.specs.DiskModel.{Past, reads, IsSettled}
 use Rattle.file_trait.specs.Calls.{Has}
 use Rattle.file_trait.specs.Moments.{Moments}
 use Rattle.file_trait.specs.Touched.{Touches}
-use Rattle.file_trait.proofs.Moments.{none_done, weaker}
-use Rattle.file_trait.proofs.Touched.{untouched}
+use Rattle.file_trait.proofs.Moments.{weaker}
 use Rattle.log_items.specs.Items.{wire, log_bytes, HasItems}
 use Rattle.log_items.proofs.Unique.{behind_head, same_head}
 use Rattle.disk_logs.specs.Crash.{Stands, IsSound, OldOrItems}
-use Rattle.disk_logs.specs.Errors.{OnlyFileOrMemory}
 use Rattle.disk_logs.specs.Logs.{Handle, FileRead, draft_name, IsRead}
 use Rattle.disk_logs.specs.declared.error.LogErr.{LogErr}
-use Rattle.disk_logs.specs.declared.error.LogErr.TheVariants.{Bad}
 use Rattle.db_model.specs.Commits.{CommitRecord}
 use Rattle.txn_log.specs.Commits.{AreItemsOf}
-use Rattle.txn_log.specs.Logs.{latest, LogState, handle, Reads, IsWrongAt, IsWrong, OldOrCommits, IsLogName}
-use Rattle.txn_log.specs.Opens.{AreCounted, Opens}
-use Rattle.txn_log.proofs.Acts.{only_bad, reads_whole, touches_more, txn_synced}
-use Rattle.txn_log.proofs.CommitLists.{count_items, one_items, log_not_wrong}
-
--- nothing was done yet, and it is Bad only where it should be
-pub not_opened : (old new : Past) (error : LogErr) → new ≡ old → ((name : List ℕ) (at : ℕ) → error ≡ Bad name at → (name ≡ latest) × IsWrong at (reads old latest)) → Opens old new (Err error)
-not_opened old new error same bad = record {
-  log = tt;
-  opened = λ commits has. tt;
-  kept = λ commits has. subst (λ p. Reads commits (reads p latest)) (sym same) has;
-  stands = λ commits has settled sound. tt;
-  any_moment = λ commits has settled. none_done (OldOrCommits old commits) old new same (λ image w. inl (image, w, refl));
-  sound = λ sound. none_done (λ past. IsSound past latest) old new same sound;
-  trusted = λ items fit closed. same;
-  bad = λ name at is. bad name at (cc);
-  wrong = λ at wrong. tt;
-  refused = λ name at is. same;
-  touches = untouched IsLogName old new same;
-}
-
--- nothing was done before
-pub opens_since : {old mid new : Past} {result : Result LogState LogErr} → mid ≡ old → Opens mid new result → Opens old new result
-opens_since {old} {mid} {new} {result} same h = subst (λ past. Opens past new result) same h
+use Rattle.txn_log.specs.Logs.{latest, LogState, handle, Reads, OldOrCommits, IsLogName}
+use Rattle.txn_log.specs.Opens.{Opens}
+use Rattle.txn_log.proofs.Acts.{reads_whole, touches_more, txn_synced}
+use Rattle.txn_log.proofs.CommitLists.{count_items, items_are}
 
 -- ---- it was read
 
@@ -46,37 +23,24 @@ not_false : (b : Bool) → not b ≡ true → b ≡ false
 not_false true is = absurd (cc)
 not_false false is = refl
 
--- What was done to the log that was read: nothing where its mark says closed, and at each moment a crash leaves what it could leave
--- before, or exactly its items.
+-- what was done to the log that was read: at each moment a crash leaves what it could leave before, or exactly its items
 pub record Resumes (old new : Past) (name : List ℕ) (read : FileRead) : Type 0 where
   pub any_moment : IsSettled old name → Moments (OldOrItems old name read.items) old new
   pub sound : IsSound old name → Moments (λ past. IsSound past name) old new
-  pub trusted : read.was_open ≡ false → new ≡ old
   pub touches : Touches (λ n. (n ≡ name) ⊎ (n ≡ draft_name name)) old new
 
 module _ (old : Past) (read : FileRead) (whole : IsRead read) (there : reads old latest ≡ Some read.bytes) where
-  has_items : HasItems read.bytes read.items
-  has_items = (not read.was_open, whole)
-
   -- its items are those of the commits that it reads as
-  items_are : (commits : List CommitRecord) → Reads commits (reads old latest) → AreItemsOf commits read.items
-  items_are commits (inl (none, is)) = absurd (cc (none, there))
-  items_are commits (inr (bytes, here, (items, are, has))) =
-      subst (AreItemsOf commits) (one_items (reads old latest) bytes read.bytes items read.items here there has has_items) are
+  are_items : (commits : List CommitRecord) → Reads commits (reads old latest) → AreItemsOf commits read.items
+  are_items commits = items_are read (reads old latest) commits whole there
 
   -- a mark that says closed was read so
-  was_closed : (items : List (List ℕ)) → reads old latest ≡ Some (log_bytes true items) → read.was_open ≡ false
+  pub was_closed : (items : List (List ℕ)) → reads old latest ≡ Some (log_bytes true items) → read.was_open ≡ false
   was_closed items closed =
       let both : Some read.bytes ≡ Some (log_bytes true items) = sym there ∙ closed in
       let same : read.bytes ≡ log_bytes true items = cc in
       let bytes = sym (behind_head read.bytes (not read.was_open) read.items whole.rest whole.is) ∙ same in
       not_false read.was_open (same_head (not read.was_open) true (wire read.items ++ whole.rest) (wire items) bytes).0
-
-  -- its items are not those of a log
-  pub not_counted : (new : Past) (error : LogErr) → new ≡ old
-      → ((name : List ℕ) (at : ℕ) → error ≡ Bad name at → (name ≡ latest) × IsWrongAt read.items at) → Opens old new (Err error)
-  not_counted new error same bad = not_opened old new error same (λ name at is.
-      let wrong = bad name at is in (wrong.0, (read.bytes, there, inr (read.items, has_items, wrong.1))))
 
   module _ (new : Past) (own : List ℕ) (own_is : own ≡ latest) (resumes : Resumes old new own read) where
     at_latest : Resumes old new latest read
@@ -88,7 +52,7 @@ module _ (old : Past) (read : FileRead) (whole : IsRead read) (there : reads old
         weaker (OldOrItems old latest read.items) (OldOrCommits old commits) old new
         (λ past moment image w. elim (moment image w) [
           | inl before ↦ inl before
-          | inr now ↦ inr (inr (now.0, now.1, (read.items, items_are commits has, now.2)))
+          | inr now ↦ inr (inr (now.0, now.1, (read.items, are_items commits has, now.2)))
         ])
         (at_latest.any_moment settled)
 
@@ -96,42 +60,35 @@ module _ (old : Past) (read : FileRead) (whole : IsRead read) (there : reads old
     log_touches = touches_more (λ n. (n ≡ latest) ⊎ (n ≡ draft_name latest)) IsLogName old new (λ name at. at) at_latest.touches
 
     -- it could not be resumed
-    pub not_resumed : (error : LogErr) → OnlyFileOrMemory {T = Handle} (Err error) → Has new own (λ left. HasItems left read.items)
+    pub not_resumed : (error : LogErr) → Has new own (λ left. HasItems left read.items)
         → Opens old new (Err error)
-    not_resumed error only kept = record {
+    not_resumed error kept = record {
       log = tt;
       opened = λ commits has. tt;
       kept = λ commits has.
           let left = subst (λ name. Has new name (λ left. HasItems left read.items)) own_is kept in
-          inr (left.0, left.1, (read.items, items_are commits has, left.2));
+          inr (left.0, left.1, (read.items, are_items commits has, left.2));
       stands = λ commits has settled sound. tt;
       any_moment = commit_moments;
       sound = at_latest.sound;
-      trusted = λ items fit closed. at_latest.trusted (was_closed items closed);
-      bad = λ name at is. absurd (only_bad error name at only (cc));
-      wrong = λ at wrong. tt;
-      refused = λ name at is. absurd (only_bad error name at only (cc));
       touches = log_touches;
     }
 
     -- it was resumed
-    pub resumed : (n : ℕ) (state : LogState) (log : Handle) → AreCounted n read.items → state.commits ≡ n → log ≡ handle state
+    pub resumed : (state : LogState) (log : Handle) → state.commits + 1 ≡ length read.items → log ≡ handle state
         → log ≡ record { name = own; draft = false; closed = true }
         → reads new own ≡ Some (log_bytes true read.items)
-        → (IsSettled old own → IsSound old own → Stands new log read.items (length read.items)) → Opens old new (Ok state)
-    resumed n state log counted number log_is is reads_own stands = record {
+        → (IsSettled old own → IsSound old own → Stands new log read.items (length read.items))
+        → Opens old new (Ok state)
+    resumed state log number log_is is reads_own stands = record {
       log = (read.items, reads_now ∙ ap (λ b. Some (log_bytes b read.items)) (sym is_closed));
-      opened = λ commits has. (count commits has, reads_whole true new commits read.items (items_are commits has) whole.fit reads_now);
+      opened = λ commits has. (count commits has, reads_whole true new commits read.items (are_items commits has) whole.fit reads_now);
       kept = λ commits has. tt;
       stands = λ commits has settled sound.
-          txn_synced new log state commits read.items log_is (count commits has) (items_are commits has)
+          txn_synced new log state commits read.items log_is (count commits has) (are_items commits has)
           (stands (subst (IsSettled old) (sym own_is) settled) (subst (IsSound old) (sym own_is) sound));
       any_moment = commit_moments;
       sound = at_latest.sound;
-      trusted = λ items fit closed. at_latest.trusted (was_closed items closed);
-      bad = λ name at never. absurd (cc);
-      wrong = λ at wrong. log_not_wrong (reads old latest) read.bytes read.items counted.commits at there has_items counted.are wrong;
-      refused = λ name at never. absurd (cc);
       touches = log_touches;
     }
       where
@@ -142,7 +99,4 @@ module _ (old : Past) (read : FileRead) (whole : IsRead read) (there : reads old
         reads_now = ap (reads new) (sym own_is) ∙ reads_own
 
         count : (commits : List CommitRecord) → Reads commits (reads old latest) → state.commits ≡ length commits
-        count commits has =
-            let sizes : suc (length counted.commits) ≡ suc (length commits) =
-            sym (count_items counted.commits read.items counted.are) ∙ count_items commits read.items (items_are commits has) in
-            number ∙ counted.number ∙ cc sizes
+        count commits has = let size = count_items commits read.items (are_items commits has) in omega (arith, number, size)

@@ -20,9 +20,13 @@ commit_word = atom (codes "commit")
 abbrev pub commit_shape : ℕ → Trees → Tree
 commit_shape version ops = tuple_of commit_word (int (pos version)) (list no_trees) (list ops)
 
+-- the terms of ops
+abbrev pub op_trees : List Operation → Trees
+op_trees ops = trees_of (map op_tree ops)
+
 -- the term of a commit without schema ops
 abbrev pub commit_tree : CommitRecord → Tree
-commit_tree commit = commit_shape commit.version (trees_of (map op_tree commit.operations))
+commit_tree commit = commit_shape commit.version (op_trees commit.operations)
 
 -- the op names what a table can be called
 abbrev pub IsNamed : Operation → Type 0

@@ -1,13 +1,15 @@
 -- The log of the commits, and what a crash may leave of it.
-use Rattle.std.specs.Prelude.{◌≡◌, ◌⊎◌, ℕ, Bool, false, suc, ◌+◌, ◌≤◌, List, [], ◌∷◌, ◌++◌, length, take, codes, Option, None, Some}
+use Rattle.std.specs.Prelude.{◌≡◌, ◌⊎◌, ℕ, Bool, false, suc, All, ◌+◌, ◌≤◌, List, [], ◌∷◌, ◌++◌, length, take, codes, Option, None, Some, Result, Ok, Err}
 use Rattle.file_trait.specs.DiskModel.{Past, IsImage, Crashes}
 use Rattle.file_trait.specs.Shown.{ReadsAs}
 use Rattle.log_items.specs.Items.{wire, HasItems}
 use Rattle.log_items.specs.Scan.{IsBadAt}
 use Rattle.disk_logs.specs.Crash.{Stands}
-use Rattle.disk_logs.specs.Logs.{Handle, draft_name}
+use Rattle.disk_logs.specs.Logs.{Handle, FileRead, draft_name}
+use Rattle.disk_logs.specs.declared.error.LogErr.{LogErr}
+use Rattle.disk_logs.specs.declared.error.LogErr.TheVariants.{File, Bad, TooLong, Memory}
 use Rattle.db_model.specs.Commits.{CommitRecord}
-use Rattle.txn_log.specs.Commits.{IsHead, IsNoCommit, AreItemsOf, HasCommits}
+use Rattle.txn_log.specs.Commits.{IsHead, IsCommit, AreItemsOf, HasCommits}
 
 abbrev pub latest : List ℕ
 latest = codes "LATEST.LOG"
@@ -23,7 +25,8 @@ handle log = record { name = latest; draft = false; closed = log.closed }
 
 -- no file has no commits, and a file those of its log
 abbrev pub Reads : List CommitRecord → Option (List ℕ) → Type 0
-Reads commits file = ((file ≡ None) × (commits ≡ [])) ⊎ ((bytes : List ℕ) × (file ≡ Some bytes) × HasCommits commits bytes)
+Reads commits file = ((file ≡ None) × (commits ≡ []))
+    ⊎ ((bytes : List ℕ) × (file ≡ Some bytes) × HasCommits commits bytes)
 
 -- ---- files without a meaning
 
@@ -31,30 +34,40 @@ Reads commits file = ((file ≡ None) × (commits ≡ [])) ⊎ ((bytes : List �
 abbrev pub LacksHead : List (List ℕ) → Type 0
 LacksHead items = (first : List ℕ) (others : List (List ℕ)) → items ≡ first ∷ others → IsHead first → ⊥
 
--- behind the first item stand commits, and then, as item number n, one that is none
-pub record HasNoCommit (items : List (List ℕ)) (n : ℕ) : Type 0 where
+-- the content is a text of no commit that is allowed
+abbrev pub IsOther : (CommitRecord → Type 0) → List ℕ → Type 0
+IsOther Allowed content = (commit : CommitRecord) → Allowed commit → IsCommit content commit → ⊥
+
+-- behind the first item stand commits that are allowed, and then, as item number n, one that is none
+pub record HasOther (Allowed : CommitRecord → Type 0) (items : List (List ℕ)) (n : ℕ) : Type 0 where
   pub commits : List CommitRecord
   pub front : List (List ℕ)
   pub other : List ℕ
   pub others : List (List ℕ)
   pub are : AreItemsOf commits front
-  pub bad : IsNoCommit other
+  pub allowed : All Allowed commits
+  pub bad : IsOther Allowed other
   pub is : items ≡ front ++ other ∷ others
   pub number : n ≡ length front
 
 -- the first item that should not be there, or the missing one, is number n, counted from 0
-abbrev pub IsWrongFrom : List (List ℕ) → ℕ → Type 0
-IsWrongFrom items n = ((n ≡ 0) × LacksHead items) ⊎ HasNoCommit items n
+abbrev pub IsWrongFrom : (CommitRecord → Type 0) → List (List ℕ) → ℕ → Type 0
+IsWrongFrom Allowed items n = ((n ≡ 0) × LacksHead items) ⊎ HasOther Allowed items n
 
 -- such an item stands at this place, or would
-pub record IsWrongAt (items : List (List ℕ)) (at : ℕ) : Type 0 where
+pub record IsWrongAt (Allowed : CommitRecord → Type 0) (items : List (List ℕ)) (at : ℕ) : Type 0 where
   pub number : ℕ
-  pub wrong : IsWrongFrom items number
+  pub wrong : IsWrongFrom Allowed items number
   pub place : at ≡ 8 + length (wire (take number items))
 
--- the file is no log of commits, from this place on
-abbrev pub IsWrong : ℕ → Option (List ℕ) → Type 0
-IsWrong at file = (bytes : List ℕ) × (file ≡ Some bytes) × (IsBadAt bytes at ⊎ ((items : List (List ℕ)) × HasItems bytes items × IsWrongAt items at))
+-- the file is no log of commits that are allowed, from this place on
+abbrev pub IsWrong : (CommitRecord → Type 0) → ℕ → Option (List ℕ) → Type 0
+IsWrong Allowed at file = (bytes : List ℕ) × (file ≡ Some bytes)
+    × (IsBadAt bytes at ⊎ ((items : List (List ℕ)) × HasItems bytes items × IsWrongAt Allowed items at))
+
+-- every commit is allowed
+abbrev pub IsAny : CommitRecord → Type 0
+IsAny commit = Unit {0}
 
 -- ---- crashes
 
@@ -75,8 +88,37 @@ Leaves commits least = Crashes (ReadsAs latest (HasFirst commits least))
 
 -- whatever a crash leaves now, the log reads as a crash could leave it at first, or has exactly these commits
 abbrev pub OldOrCommits : Past → List CommitRecord → Past → Type 0
-OldOrCommits old commits = Crashes (λ image. ((earlier : List ℕ → Option (List ℕ)) × IsImage old earlier × (image latest ≡ earlier latest)) ⊎ Reads commits (image latest))
+OldOrCommits old commits = Crashes (λ image.
+    ((earlier : List ℕ → Option (List ℕ)) × IsImage old earlier × (image latest ≡ earlier latest))
+    ⊎ Reads commits (image latest))
 
 -- the names that the log's calls touch
 abbrev pub IsLogName : List ℕ → Type 0
 IsLogName name = (name ≡ latest) ⊎ (name ≡ draft_name latest)
+
+-- ---- reading
+
+-- the file is no file of items, or its first item is not a log's
+abbrev pub IsNoLog : ℕ → Option (List ℕ) → Type 0
+IsNoLog at file = (bytes : List ℕ) × (file ≡ Some bytes)
+    × (IsBadAt bytes at ⊎ ((items : List (List ℕ)) × HasItems bytes items × LacksHead items × (at ≡ 8)))
+
+-- What is read of the log: nothing where there is no file, its bytes where it begins as a log, and else where it does
+-- not.
+abbrev pub HasFound : Result (Option FileRead) LogErr → Option (List ℕ) → Type 0
+HasFound (Ok None) file = file ≡ None
+HasFound (Ok (Some read)) file = file ≡ Some read.bytes
+HasFound (Err (Bad name at)) file = (name ≡ latest) × IsNoLog at file
+HasFound (Err TooLong) file = ⊥
+HasFound (Err (File name)) file = Unit {0}
+HasFound (Err Memory) file = Unit {0}
+
+-- the file is as it was read
+abbrev pub IsAsRead : Option FileRead → Option (List ℕ) → Type 0
+IsAsRead None file = file ≡ None
+IsAsRead (Some read) file = file ≡ Some read.bytes
+
+-- all items behind the first are commits
+abbrev pub HasOnlyCommits : Option FileRead → Type 0
+HasOnlyCommits None = Unit {0}
+HasOnlyCommits (Some read) = (commits : List CommitRecord) × AreItemsOf commits read.items

@@ -1,24 +1,24 @@
 //! Commits as the items of a log.
 
-ghost use Rattle.std.specs.Prelude.{◌≡◌, ◌⊎◌, ◌↔◌, ◌<◌, ◌≤◌, ◌^◌, ℕ, pos, length, map, IsTrue, IfOk, OnOk, IfErr, IsErrOf, None, MatchOption};
+ghost use Rattle.std.specs.Prelude.{◌≡◌, ◌⊎◌, ◌↔◌, ◌<◌, ◌≤◌, ◌^◌, ℕ, pos, length, map, IsTrue, IfOk, IfErr, IsErrOf, None, MatchOption};
 ghost use Rattle.term_core.specs.Tree as trees;
 ghost use Rattle.term_core.specs.Tree.{Trees, depth, no_trees};
 ghost use Rattle.term_core.specs.View.{tree_of, forest_of};
-ghost use Rattle.term_wire.specs.Spelling.{IsText};
-ghost use Rattle.log_items.specs.Items.{IsContent};
-ghost use Rattle.db_model.specs.Ops.{op_tree};
 ghost use Rattle.db_model.specs.View.{operation, commit_record};
 ghost use Rattle.db_model.specs.Commits.{CommitRecord};
 ghost use Rattle.txn_log.specs.Commits as commits;
 
-use db_model::{Commit, Ops, SchemaOps, op_of_term, op_term};
+use crate::commit_text::commit_text;
+use db_model::{Commit, Ops, SchemaOps, op_of_term};
 use disk_logs::LogErr;
 use log_items::{ItemErr, put_item};
-use sqlite_items::Items;
 use std::alloc::{AllocError, Global};
 use std::marker::Model;
-use term_core::{Atom, Term};
-use term_wire::{EncodeErr, WireErr, decode, encode};
+use term_core::Term;
+use term_wire::{WireErr, decode};
+
+/// What stands in front of an item's content.
+const HEADER_BYTES: usize = 16;
 
 /// A whole item of a log whose content is a commit's text.
 #[derive(Drop)]
@@ -58,62 +58,12 @@ pub fn encode_commit(alloc: Global, commit: &Commit) -> Result<CommitItem, LogEr
     ensures only { IfErr result (λ error. (error ≡ LogErr.TooLong) ⊎ (error ≡ LogErr.Memory)) }
 {
     let text = commit_text(alloc, commit)?;
-    let mut bytes = Vec::new(alloc);
+    let mut bytes = Vec::with_capacity(alloc, HEADER_BYTES + text.len())?;
     match put_item(&text, &mut bytes) {
         Ok(()) => Ok(CommitItem { bytes }),
         Err(ItemErr::Memory) => Err(LogErr::Memory),
         Err(ItemErr::TooLong) | Err(ItemErr::Bad(_)) => unreachable!(),
     }
-}
-
-fn commit_text(alloc: Global, commit: &Commit) -> Result<Vec<u8>, LogErr>
-    requires levels { depth (commits.commit_tree (commit_record commit.now)) ≤ 128 }
-    ensures text { IfOk result (λ text. text.items ≡ commits.commit_text (commit_record commit.now)) }
-    ensures spells { OnOk result (IsText (commits.commit_text (commit_record commit.now)) (commits.commit_tree (commit_record commit.now))) }
-    ensures fits { OnOk result (IsContent (commits.commit_text (commit_record commit.now))) }
-    ensures long { IsErrOf result LogErr.TooLong → 2 ^ 28 < length (commits.commit_text (commit_record commit.now)) }
-    ensures only { IfErr result (λ error. (error ≡ LogErr.TooLong) ⊎ (error ≡ LogErr.Memory)) }
-{
-    let term = commit_term(alloc, commit)?;
-    let mut text = Vec::new(alloc);
-    match encode(&term, &mut text) {
-        Ok(()) => Ok(text),
-        Err(EncodeErr::Memory) => Err(LogErr::Memory),
-        Err(EncodeErr::TooLong) => Err(LogErr::TooLong),
-        Err(EncodeErr::TooDeep) => unreachable!(),
-    }
-}
-
-/// `{commit,Version,[],Ops}`
-fn commit_term(alloc: Global, commit: &Commit) -> Result<Term, AllocError>
-    ensures { IfOk result (λ term. tree_of term ≡ commits.commit_tree (commit_record commit.now)) }
-{
-    let mut parts = Items::new(alloc);
-    parts.push(commit_word(alloc)?)?;
-    parts.push(Term::Int(commit.version as i128))?;
-    parts.push(Term::List(Items::new(alloc)))?;
-    parts.push(Term::List(op_terms(alloc, &commit.ops)?))?;
-    Ok(Term::Tuple(parts))
-}
-
-fn commit_word(alloc: Global) -> Result<Term, AllocError>
-    ensures { IfOk result (λ term. tree_of term ≡ commits.commit_word) }
-{
-    match Atom::new(alloc, "commit") {
-        Ok(atom) => Ok(Term::Atom(atom)),
-        Err(_) => Err(AllocError),
-    }
-}
-
-/// The terms of ops, in their order.
-fn op_terms(alloc: Global, ops: &Ops) -> Result<Items<Term>, AllocError>
-    ensures { IfOk result (λ terms. map tree_of terms ≡ map op_tree (map operation ops.now)) }
-{
-    let mut terms = Items::new(alloc);
-    for op in ops.as_slice() {
-        terms.push(op_term(alloc, op)?)?;
-    }
-    Ok(terms)
 }
 
 /// The commit that an item's content is a text of. A content that is no text of a commit, or that of one with schema ops, is none.

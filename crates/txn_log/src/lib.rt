@@ -1,13 +1,15 @@
 //! The log of the commits: `LATEST.LOG`, a log file whose items are a head and one commit each.
 #![tactic(auto)]
 
+mod commit_file;
 mod commit_items;
-mod counting;
+mod commit_text;
 mod heads;
 mod laws;
 mod log;
 mod names;
 
+pub use commit_file::CommitFile;
 pub use commit_items::{CommitItem, decode_commit, encode_commit};
 pub use laws::{commit_law, item_law, log_law};
 pub use log::TxnLog;

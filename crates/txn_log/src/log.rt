@@ -1,24 +1,24 @@
 //! The log of the commits over a disk.
 
-ghost use Rattle.std.specs.Prelude.{◌≡◌, ◌⊎◌, ◌+◌, ◌-◌, ◌<◌, ◌≤◌, ◌^◌, ◌++◌, ◌∷◌, [], ℕ, List, true, false, length, IsTrue, IfOk, IsErrOf, OnOk, OnErr};
+ghost use Rattle.std.specs.Prelude.{◌≡◌, ◌⊎◌, ◌+◌, ◌-◌, ◌<◌, ◌≤◌, ◌^◌, ◌++◌, ◌∷◌, [], ℕ, List, true, false, length, Some, Ok, IsTrue, IsOk, IfOk, IsErrOf, OnOk, OnErr};
 ghost use Rattle.file_trait.specs.Calls.{IsAbsent, IsDurable};
 ghost use Rattle.file_trait.specs.DiskModel.{reads, IsSettled};
 ghost use Rattle.file_trait.specs.Moments.{Moments};
 ghost use Rattle.file_trait.specs.Touched.{Touches};
 ghost use Rattle.disk_logs.specs.Crash.{IsSound};
 ghost use Rattle.disk_logs.specs.Errors.{OnlyFile, OnlyFileOrMemory, LogCause};
-ghost use Rattle.disk_logs.specs.Logs.{IsLog, IsRead};
+ghost use Rattle.disk_logs.specs.Logs.{IsLog};
 ghost use Rattle.log_items.specs.Items.{log_bytes, AreContents};
 ghost use Rattle.db_model.specs.Commits.{CommitRecord};
-ghost use Rattle.txn_log.specs.Commits.{IsItemOf};
+ghost use Rattle.txn_log.specs.Commits.{IsItemOf, AreItemsOf};
 ghost use Rattle.txn_log.specs.Opens.{Opens};
-ghost use Rattle.txn_log.specs.Logs.{latest as latest_name, handle, Reads, IsWrong, TxnStands, Leaves, OldOrCommits, IsLogName};
+ghost use Rattle.txn_log.specs.Logs.{latest as latest_name, handle, Reads, IsAsRead, HasOnlyCommits, TxnStands, Leaves, OldOrCommits, IsLogName};
 
+use crate::commit_file::CommitFile;
 use crate::commit_items::CommitItem;
-use crate::counting::counted;
 use crate::heads::HEAD_TEXT;
 use crate::names::latest;
-use disk_logs::{Log, LogErr, LogFile};
+use disk_logs::{Log, LogErr};
 use file_trait::Disk;
 use std::alloc::Global;
 use std::marker::Model;
@@ -42,40 +42,52 @@ impl Model for TxnLog {
 }
 
 impl TxnLog {
-    /// Opens `LATEST.LOG`. Where there is none, one without commits is published. It is `Bad` exactly where the file is no log of
-    /// commits, at its first wrong place, and then nothing is done to the disk. A file whose mark says open is renewed: its whole items
-    /// are published as a new file. One whose mark says closed is trusted as it is.
-    pub fn open_latest<D: Disk>(alloc: Global, disk: &mut D) -> Result<TxnLog, LogErr>
+    /// Opens the log that was read and has only commits. One whose mark says open is renewed: its whole items are
+    /// published as a new file. One whose mark says closed is trusted as it is. Where there is none, one without commits
+    /// is published.
+    pub fn open<D: Disk>(
+        alloc: Global,
+        disk: &mut D,
+        read: &Option<CommitFile>,
+    ) -> Result<TxnLog, LogErr>
+        requires read { IsTrue D.tells → IsAsRead read.now (reads (D.past disk.old) latest_name) }
+        requires commits { HasOnlyCommits read.now }
         ensures few { IfOk result (λ log. log.commits < 2 ^ 63) }
         ensures log { IsTrue D.tells → IfOk result (λ log. IsLog (D.past disk.new) (handle log)) }
 
         // The commits are those that the file had.
-        ensures opened { (commits : List CommitRecord) → IsTrue D.tells → Reads commits (reads (D.past disk.old) latest_name)
-            → IfOk result (λ log. (log.commits ≡ length commits) × Reads commits (reads (D.past disk.new) latest_name)) }
-        ensures kept { (commits : List CommitRecord) → IsTrue D.tells → Reads commits (reads (D.past disk.old) latest_name)
+        ensures opened { (commits : List CommitRecord) → IsTrue D.tells
+            → Reads commits (reads (D.past disk.old) latest_name)
+            → IfOk result (λ log. (log.commits ≡ length commits)
+            × Reads commits (reads (D.past disk.new) latest_name)) }
+        ensures kept { (commits : List CommitRecord) → IsTrue D.tells
+            → Reads commits (reads (D.past disk.old) latest_name)
             → OnErr result (Reads commits (reads (D.past disk.new) latest_name)) }
 
         // At Ok all of them are synced. At each moment a crash leaves what it could leave before, or exactly these commits.
-        ensures stands { (commits : List CommitRecord) → IsTrue D.tells → Reads commits (reads (D.past disk.old) latest_name) → IsSettled (D.past disk.old) latest_name
-            → IsSound (D.past disk.old) latest_name → IfOk result (λ log. TxnStands (D.past disk.new) log commits (length commits)) }
-        ensures any_moment { (commits : List CommitRecord) → IsTrue D.tells → Reads commits (reads (D.past disk.old) latest_name) → IsSettled (D.past disk.old) latest_name
+        ensures stands { (commits : List CommitRecord) → IsTrue D.tells
+            → Reads commits (reads (D.past disk.old) latest_name) → IsSettled (D.past disk.old) latest_name
+            → IsSound (D.past disk.old) latest_name
+            → IfOk result (λ log. TxnStands (D.past disk.new) log commits (length commits)) }
+        ensures any_moment { (commits : List CommitRecord) → IsTrue D.tells
+            → Reads commits (reads (D.past disk.old) latest_name) → IsSettled (D.past disk.old) latest_name
             → Moments (OldOrCommits (D.past disk.old) commits) (D.past disk.old) (D.past disk.new) }
-        ensures sound { IsTrue D.tells → IsSound (D.past disk.old) latest_name → Moments (λ past. IsSound past latest_name) (D.past disk.old) (D.past disk.new) }
-        ensures trusted { (items : List (List ℕ)) → IsTrue D.tells → AreContents items → reads (D.past disk.old) latest_name ≡ Some (log_bytes true items) → D.past disk.new ≡ D.past disk.old }
+        ensures sound { IsTrue D.tells → IsSound (D.past disk.old) latest_name
+            → Moments (λ past. IsSound past latest_name) (D.past disk.old) (D.past disk.new) }
 
-        ensures bad { IsTrue D.tells → (name : List ℕ) (at : ℕ) → IsErrOf result (LogErr.Bad name at) → (name ≡ latest_name) × IsWrong at (reads (D.past disk.old) latest_name) }
-        ensures wrong { IsTrue D.tells → (at : ℕ) → IsWrong at (reads (D.past disk.old) latest_name) → IfOk result (λ log. ⊥) }
-        ensures refused { IsTrue D.tells → (name : List ℕ) (at : ℕ) → IsErrOf result (LogErr.Bad name at) → D.past disk.new ≡ D.past disk.old }
+        // Over a file that reads as a closed log it cannot fail, and nothing is done.
+        ensures trusted { (items : List (List ℕ)) → IsTrue D.tells → AreContents items
+            → reads (D.past disk.old) latest_name ≡ Some (log_bytes true items)
+            → IsOk result × (disk.new ≡ disk.old) }
         ensures touches { IsTrue D.tells → Touches IsLogName (D.past disk.old) (D.past disk.new) }
         ensures named { (name : List ℕ) → IsErrOf result (LogErr.File name) → IsLogName name }
-        ensures never { IsErrOf result LogErr.TooLong → ⊥ }
+        ensures only { OnlyFileOrMemory result }
         ensures time { D.moment disk.old ≤ D.moment disk.new }
         ensures cause { LogCause (D.faults disk.old) (D.faults disk.new) (D.blamed disk.new) result }
     {
-        match LogFile::read(alloc, disk, latest()) {
-            Ok(Some(read)) => resumed(alloc, disk, &read),
-            Ok(None) => made(alloc, disk),
-            Err(error) => Err(error),
+        match read {
+            Some(file) => resumed(disk, file),
+            None => made(alloc, disk),
         }
     }
 
@@ -90,20 +102,27 @@ impl TxnLog {
 
         // At Ok the commit stands behind the old ones. Where memory was wanting all is as before, and where the disk failed the
         // log has the old commits, or these and the new one.
-        ensures stands { (commits : List CommitRecord) (synced : ℕ) (commit : CommitRecord) → IsTrue D.tells → IsItemOf commit item.now → TxnStands (D.past disk.old) self.old commits synced
+        ensures stands { (commits : List CommitRecord) (synced : ℕ) (commit : CommitRecord) → IsTrue D.tells
+            → IsItemOf commit item.now → TxnStands (D.past disk.old) self.old commits synced
             → OnOk result (TxnStands (D.past disk.new) self.new (commits ++ commit ∷ []) synced) }
-        ensures kept { (commits : List CommitRecord) (synced : ℕ) → IsTrue D.tells → TxnStands (D.past disk.old) self.old commits synced
+        ensures kept { (commits : List CommitRecord) (synced : ℕ) → IsTrue D.tells
+            → TxnStands (D.past disk.old) self.old commits synced
             → IsErrOf result LogErr.Memory → TxnStands (D.past disk.new) self.new commits synced }
-        ensures left { (commits : List CommitRecord) (synced : ℕ) (commit : CommitRecord) → IsTrue D.tells → IsItemOf commit item.now → TxnStands (D.past disk.old) self.old commits synced
-            → OnErr result (Reads commits (reads (D.past disk.new) latest_name) ⊎ Reads (commits ++ commit ∷ []) (reads (D.past disk.new) latest_name)) }
+        ensures left { (commits : List CommitRecord) (synced : ℕ) (commit : CommitRecord) → IsTrue D.tells
+            → IsItemOf commit item.now → TxnStands (D.past disk.old) self.old commits synced
+            → OnErr result (Reads commits (reads (D.past disk.new) latest_name)
+            ⊎ Reads (commits ++ commit ∷ []) (reads (D.past disk.new) latest_name)) }
 
         // At each moment a crash leaves the first ones of the old commits and the new, and at least those that were synced.
-        ensures any_moment { (commits : List CommitRecord) (synced : ℕ) (commit : CommitRecord) → IsTrue D.tells → IsItemOf commit item.now → TxnStands (D.past disk.old) self.old commits synced
+        ensures any_moment { (commits : List CommitRecord) (synced : ℕ) (commit : CommitRecord) → IsTrue D.tells
+            → IsItemOf commit item.now → TxnStands (D.past disk.old) self.old commits synced
             → Moments (Leaves (commits ++ commit ∷ []) synced) (D.past disk.old) (D.past disk.new) }
         // Where memory was wanting it leaves only old ones.
-        ensures only_old { (commits : List CommitRecord) (synced : ℕ) → IsTrue D.tells → TxnStands (D.past disk.old) self.old commits synced
+        ensures only_old { (commits : List CommitRecord) (synced : ℕ) → IsTrue D.tells
+            → TxnStands (D.past disk.old) self.old commits synced
             → IsErrOf result LogErr.Memory → Moments (Leaves commits synced) (D.past disk.old) (D.past disk.new) }
-        ensures sound { (commits : List CommitRecord) (synced : ℕ) → IsTrue D.tells → TxnStands (D.past disk.old) self.old commits synced
+        ensures sound { (commits : List CommitRecord) (synced : ℕ) → IsTrue D.tells
+            → TxnStands (D.past disk.old) self.old commits synced
             → Moments (λ past. IsSound past latest_name) (D.past disk.old) (D.past disk.new) }
         ensures touches { IsTrue D.tells → Touches IsLogName (D.past disk.old) (D.past disk.new) }
         ensures named { (name : List ℕ) → IsErrOf result (LogErr.File name) → name ≡ latest_name }
@@ -128,13 +147,17 @@ impl TxnLog {
         requires { IsTrue D.tells → IsLog (D.past disk.old) (handle self.old) }
         ensures same { self.new ≡ self.old }
         ensures log { IsTrue D.tells → IsLog (D.past disk.new) (handle self.new) }
-        ensures stands { (commits : List CommitRecord) (synced : ℕ) → IsTrue D.tells → TxnStands (D.past disk.old) self.old commits synced
+        ensures stands { (commits : List CommitRecord) (synced : ℕ) → IsTrue D.tells
+            → TxnStands (D.past disk.old) self.old commits synced
             → OnOk result (TxnStands (D.past disk.new) self.new commits (length commits)) }
-        ensures left { (commits : List CommitRecord) (synced : ℕ) → IsTrue D.tells → TxnStands (D.past disk.old) self.old commits synced
+        ensures left { (commits : List CommitRecord) (synced : ℕ) → IsTrue D.tells
+            → TxnStands (D.past disk.old) self.old commits synced
             → OnErr result (Reads commits (reads (D.past disk.new) latest_name)) }
-        ensures any_moment { (commits : List CommitRecord) (synced : ℕ) → IsTrue D.tells → TxnStands (D.past disk.old) self.old commits synced
+        ensures any_moment { (commits : List CommitRecord) (synced : ℕ) → IsTrue D.tells
+            → TxnStands (D.past disk.old) self.old commits synced
             → Moments (Leaves commits synced) (D.past disk.old) (D.past disk.new) }
-        ensures sound { (commits : List CommitRecord) (synced : ℕ) → IsTrue D.tells → TxnStands (D.past disk.old) self.old commits synced
+        ensures sound { (commits : List CommitRecord) (synced : ℕ) → IsTrue D.tells
+            → TxnStands (D.past disk.old) self.old commits synced
             → Moments (λ past. IsSound past latest_name) (D.past disk.old) (D.past disk.new) }
         ensures touches { IsTrue D.tells → Touches IsLogName (D.past disk.old) (D.past disk.new) }
         ensures named { (name : List ℕ) → IsErrOf result (LogErr.File name) → name ≡ latest_name }
@@ -146,23 +169,31 @@ impl TxnLog {
         self.log.sync(disk)
     }
 
-    /// Closes the log where it is open: it is made durable, marked closed, and made durable again.
+    /// Closes the log where it is open: it is made durable, marked closed, and made durable again. Where it is closed this
+    /// cannot fail, and nothing is done.
     pub fn close<D: Disk>(&mut self, disk: &mut D) -> Result<(), LogErr>
         requires { IsTrue D.tells → IsLog (D.past disk.old) (handle self.old) }
+        ensures nothing { self.old.closed ≡ true → (result ≡ Ok tt) × (disk.new ≡ disk.old) }
         ensures wanted { IsTrue D.tells → IsErrOf result LogErr.Memory → IsLog (D.past disk.new) (handle self.new) }
         ensures commits { self.new.commits ≡ self.old.commits }
         ensures closed { OnOk result (self.new.closed ≡ true) }
-        ensures stands { (commits : List CommitRecord) (synced : ℕ) → IsTrue D.tells → TxnStands (D.past disk.old) self.old commits synced
+        ensures stands { (commits : List CommitRecord) (synced : ℕ) → IsTrue D.tells
+            → TxnStands (D.past disk.old) self.old commits synced
             → OnOk result (TxnStands (D.past disk.new) self.new commits (length commits)) }
-        ensures kept { (commits : List CommitRecord) (synced : ℕ) → IsTrue D.tells → TxnStands (D.past disk.old) self.old commits synced
+        ensures kept { (commits : List CommitRecord) (synced : ℕ) → IsTrue D.tells
+            → TxnStands (D.past disk.old) self.old commits synced
             → IsErrOf result LogErr.Memory → TxnStands (D.past disk.new) self.new commits synced }
-        ensures left { (commits : List CommitRecord) (synced : ℕ) → IsTrue D.tells → TxnStands (D.past disk.old) self.old commits synced
+        ensures left { (commits : List CommitRecord) (synced : ℕ) → IsTrue D.tells
+            → TxnStands (D.past disk.old) self.old commits synced
             → OnErr result (Reads commits (reads (D.past disk.new) latest_name)) }
-        ensures any_moment { (commits : List CommitRecord) (synced : ℕ) → IsTrue D.tells → TxnStands (D.past disk.old) self.old commits synced
+        ensures any_moment { (commits : List CommitRecord) (synced : ℕ) → IsTrue D.tells
+            → TxnStands (D.past disk.old) self.old commits synced
             → Moments (Leaves commits synced) (D.past disk.old) (D.past disk.new) }
-        ensures sound { (commits : List CommitRecord) (synced : ℕ) → IsTrue D.tells → TxnStands (D.past disk.old) self.old commits synced
+        ensures sound { (commits : List CommitRecord) (synced : ℕ) → IsTrue D.tells
+            → TxnStands (D.past disk.old) self.old commits synced
             → Moments (λ past. IsSound past latest_name) (D.past disk.old) (D.past disk.new) }
-        ensures durable { (commits : List CommitRecord) (synced : ℕ) → IsTrue D.tells → TxnStands (D.past disk.old) self.old commits synced → self.old.closed ≡ false
+        ensures durable { (commits : List CommitRecord) (synced : ℕ) → IsTrue D.tells
+            → TxnStands (D.past disk.old) self.old commits synced → self.old.closed ≡ false
             → OnOk result (IsDurable (D.past disk.new) latest_name) }
         ensures touches { IsTrue D.tells → Touches IsLogName (D.past disk.old) (D.past disk.new) }
         ensures named { (name : List ℕ) → IsErrOf result (LogErr.File name) → name ≡ latest_name }
@@ -183,22 +214,24 @@ impl TxnLog {
 }
 
 // Opens the log that was read.
-fn resumed<D: Disk>(alloc: Global, disk: &mut D, read: &LogFile) -> Result<TxnLog, LogErr>
-    requires whole { IsRead read.now }
-    requires read { IsTrue D.tells → reads (D.past disk.old) latest_name ≡ Some read.now.bytes }
+fn resumed<D: Disk>(disk: &mut D, file: &CommitFile) -> Result<TxnLog, LogErr>
+    requires read { IsTrue D.tells → reads (D.past disk.old) latest_name ≡ Some file.now.bytes }
+    requires commits { (commits : List CommitRecord) × AreItemsOf commits file.now.items }
     ensures few { IfOk result (λ log. log.commits < 2 ^ 63) }
     ensures opens { IsTrue D.tells → Opens (D.past disk.old) (D.past disk.new) result }
+    ensures trusted { (items : List (List ℕ)) → IsTrue D.tells
+        → reads (D.past disk.old) latest_name ≡ Some (log_bytes true items)
+        → IsOk result × (disk.new ≡ disk.old) }
     ensures named { (name : List ℕ) → IsErrOf result (LogErr.File name) → IsLogName name }
-    ensures never { IsErrOf result LogErr.TooLong → ⊥ }
+    ensures only { OnlyFileOrMemory result }
     ensures time { D.moment disk.old ≤ D.moment disk.new }
     ensures cause { LogCause (D.faults disk.old) (D.faults disk.new) (D.blamed disk.new) result }
 {
-    let commits = match counted(alloc, read) {
-        Ok(commits) => commits,
-        Err(error) => return Err(error),
-    };
-    match Log::resume(disk, latest(), read) {
-        Ok(log) => Ok(TxnLog { log, commits }),
+    match Log::resume(disk, latest(), file.file()) {
+        Ok(log) => Ok(TxnLog {
+            log,
+            commits: file.len() as u64,
+        }),
         Err(error) => Err(error),
     }
 }
@@ -209,7 +242,7 @@ fn made<D: Disk>(alloc: Global, disk: &mut D) -> Result<TxnLog, LogErr>
     ensures few { IfOk result (λ log. log.commits < 2 ^ 63) }
     ensures opens { IsTrue D.tells → Opens (D.past disk.old) (D.past disk.new) result }
     ensures named { (name : List ℕ) → IsErrOf result (LogErr.File name) → IsLogName name }
-    ensures never { IsErrOf result LogErr.TooLong → ⊥ }
+    ensures only { OnlyFileOrMemory result }
     ensures time { D.moment disk.old ≤ D.moment disk.new }
     ensures cause { LogCause (D.faults disk.old) (D.faults disk.new) (D.blamed disk.new) result }
 {

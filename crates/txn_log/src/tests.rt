@@ -1,9 +1,14 @@
 //! Tests of the log, over a disk in memory.
 
-use crate::{CommitItem, TxnLog, encode_commit, latest};
+ghost use Rattle.std.specs.Prelude.{◌<◌, ◌^◌, IfOk, IsTrue, OnOk, Some};
+ghost use Rattle.disk_logs.specs.Logs.{IsLog};
+ghost use Rattle.txn_log.specs.Logs.{handle, HasOnlyCommits};
+
+use crate::{CommitFile, CommitItem, TxnLog, encode_commit, latest};
 use db_model::{Commit, Ops, SchemaOps};
 use disk_logs::LogErr;
 use file_mem::MemDisk;
+use file_trait::Disk;
 use std::alloc::{AllocError, Global};
 use std::test::Fail;
 
@@ -28,10 +33,37 @@ fn item(alloc: Global, version: u64) -> Result<CommitItem, LogErr> {
     encode_commit(alloc, &commit)
 }
 
+/// Reads all commits of a log's file. It is `Bad` at the first item that is none.
+fn check_commits(alloc: Global, file: &CommitFile) -> Result<(), LogErr>
+    ensures { OnOk result (HasOnlyCommits (Some file.now)) }
+{
+    let count = file.len();
+    let mut number = 0;
+    'items: while number < count {
+        match file.commit(alloc, number)? {
+            Some(_) => number += 1,
+            None => return Err(LogErr::Bad(latest(), file.place(number))),
+        }
+    }
+    Ok(())
+}
+
+/// Opens the log of a disk.
+fn open<D: Disk>(alloc: Global, disk: &mut D) -> Result<TxnLog, LogErr>
+    ensures few { IfOk result (λ log. log.commits < 2 ^ 63) }
+    ensures log { IsTrue D.tells → IfOk result (λ log. IsLog (D.past disk.new) (handle log)) }
+{
+    let read = CommitFile::read(alloc, disk)?;
+    if let Some(file) = &read {
+        check_commits(alloc, file)?;
+    }
+    TxnLog::open(alloc, disk, &read)
+}
+
 #[test]
 fn commits_are_found_again(rt: HostRuntime) -> Result<(), Fail> {
     let mut disk = MemDisk::new(rt.alloc());
-    let mut log = TxnLog::open_latest(rt.alloc(), &mut disk)?;
+    let mut log = open(rt.alloc(), &mut disk)?;
     assert_eq!(rt; log.commits(), 0);
     let written = [CLOSED.as_slice(), HEAD_ITEM.as_slice()].concat(rt.alloc())?;
     assert_eq!(rt; disk.contents(latest()), Some(written.as_slice()));
@@ -40,15 +72,14 @@ fn commits_are_found_again(rt: HostRuntime) -> Result<(), Fail> {
     log.append(&mut disk, &one)?;
     assert_eq!(rt; log.commits(), 2);
     log.close(&mut disk)?;
-    let again = TxnLog::open_latest(rt.alloc(), &mut disk)?;
-    assert_eq!(rt; again.commits(), 2);
+    assert_eq!(rt; open(rt.alloc(), &mut disk)?.commits(), 2);
     Ok(())
 }
 
 #[test]
 fn a_torn_commit_is_gone_once_the_log_is_renewed(rt: HostRuntime) -> Result<(), Fail> {
     let mut disk = MemDisk::new(rt.alloc());
-    let mut log = TxnLog::open_latest(rt.alloc(), &mut disk)?;
+    let mut log = open(rt.alloc(), &mut disk)?;
     let one = item(rt.alloc(), 1)?;
     log.append(&mut disk, &one)?;
     log.sync(&mut disk)?;
@@ -57,8 +88,7 @@ fn a_torn_commit_is_gone_once_the_log_is_renewed(rt: HostRuntime) -> Result<(), 
         Err(LogErr::File(_)) => {}
         _ => assert!(rt; false),
     }
-    let again = TxnLog::open_latest(rt.alloc(), &mut disk)?;
-    assert_eq!(rt; again.commits(), 1);
+    assert_eq!(rt; open(rt.alloc(), &mut disk)?.commits(), 1);
     let renewed = [CLOSED.as_slice(), HEAD_ITEM.as_slice(), one.bytes()].concat(rt.alloc())?;
     assert_eq!(rt; disk.contents(latest()), Some(renewed.as_slice()));
     Ok(())
@@ -84,7 +114,7 @@ fn a_log_is_bad_at_its_first_wrong_place(rt: HostRuntime) -> Result<(), Fail> {
     ];
     for (first, second, wrong) in table {
         let mut disk = disk_with(rt.alloc(), first, second)?;
-        match TxnLog::open_latest(rt.alloc(), &mut disk) {
+        match open(rt.alloc(), &mut disk) {
             Err(LogErr::Bad(_, at)) => assert_eq!(rt; at, wrong),
             _ => assert!(rt; false),
         }

@@ -1,6 +1,5 @@
-use Rattle.std.proofs.Common.{◌≡◌, arith}
+use Rattle.std.proofs.Common.{arith}
 use Rattle.std.proofs.lemmas.Result.{err_from_is_err_and}
-use Rattle.disk_logs.specs.declared.error.LogErr.TheVariants.{Bad}
 use Rattle.disk_logs.proofs.Publishing.{same_error}
 use Rattle.disk_logs.proofs.ReadLemmas.{file_there, wrong_file, whole_read}
 use Rattle.disk_logs.proofs.reading.read_file.Goals as goal

@@ -10,7 +10,7 @@ invariant-pieces g l = record {
   same : IsTrue g.D.Disk.tells → g.D.Disk.past l.disk ≡ g.D.Disk.past l.fn.disk;
   part : (file : List ℕ) → IsTrue g.D.Disk.tells → reads (g.D.Disk.past l.fn.disk) l.name ≡ Some file → StartsWith l.fn.bytes.items file → StartsWith l.bytes.items file;
   time : g.D.Disk.moment l.disk ≡ g.D.Disk.moment l.fn.disk;
-  later : g.D.Disk.faults l.fn.disk ≤ g.D.Disk.faults l.disk;
+  uncounted : g.D.Disk.faults l.disk ≡ g.D.Disk.faults l.fn.disk;
 }
 
 abbrev pub decreases-pieces : goal.decreases-pieces

@@ -1,146 +1,285 @@
-use Rattle.std.proofs.Common.{◌≡◌, ◌+◌, ◌++◌, ℕ, List, Err, refl, sym, ap, subst, inl, arith}
+use Rattle.std.proofs.Common.{◌≡◌, ◌+◌, ◌++◌, ◌≤◌, List, ℕ, [], ◌∷◌, None, Ok, Err, refl, sym, ap, ◌∙◌, subst, length, arith}
+use Rattle.std.proofs.lemmas.Result.{err_from_is_err_and}
+use Rattle.file_trait.proofs.Touched.{then_touched}
+use Rattle.txn_log.specs.Logs.{IsLogName}
+use Rattle.mn_node.specs.Shown.{IsFew, IsFaulted}
+use Rattle.mn_node.specs.Machine.{unstarted_machine}
+use Rattle.mn_node.specs.Machine as machines
 use Rattle.mn_run.specs.Lines.{lines_of}
-use Rattle.mn_run.specs.Runs.{last_of}
+use Rattle.mn_run.specs.Runs.{World, unbegun, last_of}
 use Rattle.mn_run.specs.Script.{plan_from}
-use Rattle.mn_run.specs.Seen as seen
-use Rattle.mn_run.specs.Steps.{IsFew, IsFaulted}
-use Rattle.mn_run.proofs.Runs.{Point, read_ends}
-use Rattle.mn_run.proofs.RunDamage.{shows_it, shows_more, over_read, over_serve, over_end, down_more}
-use Rattle.mn_run.proofs.RunLoop.{begun, do_more, do_ends, end_ends, blank_more, is_do, is_blank, is_end, goes_do, goes_blank, goes_end, EndedFrom}
+use Rattle.mn_run.specs.Seen.{event}
+use Rattle.mn_run.specs.declared.session.Session.{Session}
+use Rattle.mn_run.specs.declared.session.TheConstants.{MOST_GATHERED}
+use Rattle.mn_run.proofs.RunFronts.{Point, point, front_on}
+use Rattle.mn_run.proofs.RunLoop.{node_shows, less_of, new_few, new_down, down_more, SoFar, first_more, first_ends, blank_more, do_more, do_ends, read_ends, flush_ends, end_ends, at_event, do_is, end_is, is_do, is_blank, is_end, goes_do, goes_blank, goes_end, todo_of, counts_from, gave_err}
 use Rattle.mn_run.proofs.running.serve_all.Goals as goal
+
+pub returns-in_err-serve-clause-gave : goal.returns-in_err-serve-clause-gave
+returns-in_err-serve-clause-gave g c told meaning means trusted =
+    let p = err_from_is_err_and c.from_residual.result c.from_residual.ensures.1 in
+    let past = g.D.Disk.past c.args.disk.now in
+    let node = c.args.session.now.node in
+    let old : World = unbegun meaning past (g.D.Disk.faults c.args.disk.now) in
+    let out : List ℕ = g.K.Sink.written c.args.out.now in
+    let script : List ℕ = g.S.Source.left c.args.script.now in
+    let shows = node_shows past meaning node c.requires.node means trusted in
+    let new = c.serve.new.self in
+    let now = g.D.Disk.past c.serve.new.disk in
+    let faults = g.D.Disk.faults c.serve.new.disk in
+    let end = c.in_err-serve.field-0.0 in
+    gave_err g.S.Source.tells g.K.Sink.tells script old out end c.from_residual.result
+    (point new now faults out)
+    (p.1 ∙ ap Err p.2)
+    (first_ends g.S.Source.tells g.K.Sink.tells script old out node shows c.args.session.now new now faults end c.requires.text
+    c.requires.marks (c.in_err-serve.ensures.served told past (unstarted_machine meaning) shows) c.in_err-serve.ensures.only)
 
 pub lines-init : goal.lines-init
 lines-init g c = record {
-  so_far = λ told told_in told_out old first began.
-      begun (g.S.Source.left c.args.script.now) old first c.new-lines.result
-      (record { node = c.args.node.now; past = g.D.Disk.past c.args.disk.now; faults = g.D.Disk.faults c.args.disk.now; out = g.K.Sink.written c.args.out.now; marks = c.args.marks.now.items })
-      c.new-lines.ensures began;
-  shown = λ told first machine shows. shows_it first c.args.node.now (g.D.Disk.past c.args.disk.now) machine shows;
-  log = c.requires.log;
-  few = c.requires.few;
-  down = λ down. inl down;
+  so_far = λ told meaning means trusted.
+      let past = g.D.Disk.past c.args.disk.now in
+      let node = c.args.session.now.node in
+      let old : World = unbegun meaning past (g.D.Disk.faults c.args.disk.now) in
+      let out : List ℕ = g.K.Sink.written c.args.out.now in
+      let script : List ℕ = g.S.Source.left c.args.script.now in
+      let shows = node_shows past meaning node c.requires.node means trusted in
+      let new = c.serve.new.self in
+      let now = g.D.Disk.past c.serve.new.disk in
+      let faults = g.D.Disk.faults c.serve.new.disk in
+      subst (λ (xs : List ℕ). SoFar g.S.Source.tells g.K.Sink.tells script old out (plan_from 0 0 (lines_of (xs ++ script))) 0
+      (point new now faults out))
+      (sym c.new-lines.ensures)
+      (first_more g.S.Source.tells g.K.Sink.tells script old out node shows c.args.session.now new now faults c.requires.text
+      c.requires.marks (c.in_ok-serve.ensures.served told past (unstarted_machine meaning) shows));
+  whole = c.in_ok-serve.ensures.whole;
+  log = c.in_ok-serve.ensures.log;
+  few = c.in_ok-serve.ensures.few 0 (new_few c.args.session.now.node c.requires.node);
+  down = λ down. new_down c.args.session.now.node c.requires.node _ (c.in_ok-serve.ensures.down down);
   within = omega arith;
   most = omega arith;
   reads = omega arith;
   writes = omega arith;
-  disks = omega arith;
+  touches = c.in_ok-serve.ensures.touches;
+  disks = c.in_ok-serve.ensures.later;
 }
 
-pub returns-in-Ok-End-clause-ran : goal.returns-in-Ok-End-clause-ran
-returns-in-Ok-End-clause-ran g c told told_in told_out old first began =
+pub returns-in_err-next_ask-clause-gave : goal.returns-in_err-next_ask-clause-gave
+returns-in_err-next_ask-clause-gave g c told meaning means trusted =
+    let p = err_from_is_err_and c.from_residual-in_err-next_ask.result c.from_residual-in_err-next_ask.ensures.1 in
     let l = c.lines in
     let ask = c.next_ask.new in
-    let now : Point = record { node = l.node; past = g.D.Disk.past l.disk; faults = g.D.Disk.faults l.disk; out = g.K.Sink.written l.out; marks = l.marks.items } in
-    let new : Point = record { node = c.end.new.node; past = g.D.Disk.past c.end.new.disk; faults = g.D.Disk.faults c.end.new.disk; out = g.K.Sink.written l.out; marks = c.end.new.marks.items } in
+    let now = point l.session (g.D.Disk.past l.disk) (g.D.Disk.faults l.disk) (g.K.Sink.written l.out) in
+    let past = g.D.Disk.past c.args.disk.now in
+    let old : World = unbegun meaning past (g.D.Disk.faults c.args.disk.now) in
+    let out : List ℕ = g.K.Sink.written c.args.out.now in
     let script : List ℕ = g.S.Source.left c.args.script.now in
     let plan = plan_from l.place.lines l.place.commands (lines_of (l.lines ++ g.S.Source.left l.script)) in
     let later = plan_from ask.place.lines ask.place.commands (lines_of (ask.lines ++ g.S.Source.left ask.script)) in
-    let s = l.invariant.so_far told told_in told_out old first began in
-    let asked = c.in-Ok-End in
-    end_ends script old first plan l.place.commands now new s (is_end asked.field-0 plan later asked.field-0-is (asked.ensures.asks told_in)) refl c.end.result
-    (subst (λ n. EndedFrom script old first now s.front n c.end.result new) (goes_end asked.field-0 l.place.lines ask.place.lines l.place.commands ask.place.commands asked.field-0-is asked.ensures.goes)
-    (c.end.ensures.ended told old.past (last_of old s.front.events).machine s.front.shows)) c.end.ensures.only
+    let s = l.invariant.so_far told meaning means trusted in
+    let asked = c.in_err-next_ask in
+    let read_out : List ℕ = g.K.Sink.written ask.out in
+    gave_err g.S.Source.tells g.K.Sink.tells script old out asked.field-0.0 c.from_residual-in_err-next_ask.result
+    (record now { out = read_out; text = ask.text.items }) (p.1 ∙ ap Err p.2)
+    (read_ends g.S.Source.tells g.K.Sink.tells script old out plan later l.place.commands now read_out ask.text.items asked.field-0.0 s
+    l.invariant.whole (λ told_in. asked.ensures.asks told_in) asked.ensures.only (λ told_out. asked.ensures.printed told_out))
 
-pub returns-in-Ok-End-clause-over : goal.returns-in-Ok-End-clause-over
-returns-in-Ok-End-clause-over g c told first machine shows =
-    let l = c.lines in
-    let was = l.invariant.shown told first machine shows in
-    over_end first machine.damage l.node (g.D.Disk.past l.disk) was (g.D.Disk.faults l.disk) c.next_ask.new.place.commands c.end.result c.end.new.node (g.D.Disk.past c.end.new.disk) (g.D.Disk.faults c.end.new.disk) l.marks.items c.end.new.marks.items
-    (c.end.ensures.ended told first was.machine was.shows) c.end.ensures.only
-
-pub lines-preserved : goal.lines-preserved
-lines-preserved g c =
+pub returns-in-End-clause-gave : goal.returns-in-End-clause-gave
+returns-in-End-clause-gave g c told meaning means trusted =
     let l = c.lines in
     let ask = c.next_ask.new in
-    let now : Point = record { node = l.node; past = g.D.Disk.past l.disk; faults = g.D.Disk.faults l.disk; out = g.K.Sink.written l.out; marks = l.marks.items } in
-    let new : Point =
-    record { node = c.serve.new.node; past = g.D.Disk.past c.serve.new.disk; faults = g.D.Disk.faults c.serve.new.disk; out = g.K.Sink.written c.serve.new.out; marks = c.serve.new.marks.items } in
+    let now = point l.session (g.D.Disk.past l.disk) (g.D.Disk.faults l.disk) (g.K.Sink.written l.out) in
+    let past = g.D.Disk.past c.args.disk.now in
+    let old : World = unbegun meaning past (g.D.Disk.faults c.args.disk.now) in
+    let out : List ℕ = g.K.Sink.written c.args.out.now in
     let script : List ℕ = g.S.Source.left c.args.script.now in
     let plan = plan_from l.place.lines l.place.commands (lines_of (l.lines ++ g.S.Source.left l.script)) in
     let later = plan_from ask.place.lines ask.place.commands (lines_of (ask.lines ++ g.S.Source.left ask.script)) in
-    let i = l.invariant in
-    let asked = c.in-Ok-Do in
-    let next : ask.place.commands ≡ l.place.commands + 1 = goes_do asked.field-0 asked.command l.place.lines ask.place.lines l.place.commands ask.place.commands asked.field-0-is asked.ensures.goes in
+    let s = l.invariant.so_far told meaning means trusted in
+    let asked = c.in_ok-next_ask in
+    let read_out : List ℕ = g.K.Sink.written ask.out in
+    let session : Session = record l.session { text = ask.text } in
+    let f =
+    at_event g.S.Source.tells g.K.Sink.tells script old out plan l.place.commands now (machines.end ∷ []) None read_out ask.text.items
+    (end_is g.S.Source.tells g.K.Sink.tells script old out plan
+    (λ told_in. is_end asked.field-0 plan later c.in-End.is (asked.ensures.asks told_in))) (λ told_out. asked.ensures.printed told_out)
+    (less_of l.session.text.items ask.text.items asked.ensures.gathered) s in
+    let same : ask.place.commands ≡ l.place.commands =
+    goes_end asked.field-0 l.place.lines ask.place.lines l.place.commands ask.place.commands c.in-End.is asked.ensures.goes in
+    end_ends g.S.Source.tells g.K.Sink.tells script old out l.place.commands ask.place.commands
+    (record now { out = read_out; text = ask.text.items }) f same (asked.ensures.end (ap Ok c.in-End.is)) session c.end.new.self
+    (g.D.Disk.past c.end.new.disk) (g.D.Disk.faults c.end.new.disk) refl c.end.result
+    (c.end.ensures.ended told past (last_of old s.acts).machine s.shows) c.end.result refl c.end.ensures.only
+
+pub lines-preserved-in-Blank : goal.lines-preserved-in-Blank
+lines-preserved-in-Blank g c =
+    let i = c.lines.invariant in
+    let asked = c.in_ok-next_ask in
+    let same : c.next_ask.new.place.commands ≡ c.lines.place.commands =
+    goes_blank asked.field-0 c.lines.place.lines c.next_ask.new.place.lines c.lines.place.commands c.next_ask.new.place.commands
+    c.in-Blank.is asked.ensures.goes in
     record {
-      so_far = λ told told_in told_out old first began.
-          let s = i.so_far told told_in told_out old first began in
-          do_more script old first plan later l.place.commands ask.place.commands now new s asked.command (is_do asked.field-0 asked.command plan later asked.field-0-is (asked.ensures.asks told_in)) next
-          (c.in-Ok.ensures.served told_out told old.past (last_of old s.front.events).machine s.front.shows);
-      shown = λ told first machine shows.
-          let was = i.shown told first machine shows in
-          shows_more first machine.damage l.node c.serve.new.node (g.D.Disk.past l.disk) (g.D.Disk.past c.serve.new.disk) was (seen.order asked.command) (c.in-Ok.ensures.steps told first was.machine was.shows);
-      log = λ told. c.in-Ok.ensures.log told;
-      few = c.in-Ok.ensures.few ask.place.commands (subst (IsFew l.node) (sym next) i.few);
-      down = λ down. down_more (IsFaulted c.args.node.now.state) (IsFaulted l.node.state) (g.D.Disk.faults c.args.disk.now) (g.D.Disk.faults l.disk) (g.D.Disk.faults c.serve.new.disk) i.disks c.in-Ok.ensures.later i.down (c.in-Ok.ensures.down down);
-      within = asked.ensures.within;
-      most = asked.ensures.few;
-      reads = omega (arith, i.reads, asked.ensures.cause.later);
-      writes = omega (arith, i.writes, c.in-Ok.ensures.write.later);
-      disks = omega (arith, i.disks, c.in-Ok.ensures.later);
-    }
-
-pub lines-preserved-in-Ok-Blank : goal.lines-preserved-in-Ok-Blank
-lines-preserved-in-Ok-Blank g c =
-    let l = c.lines in
-    let ask = c.next_ask.new in
-    let now : Point = record { node = l.node; past = g.D.Disk.past l.disk; faults = g.D.Disk.faults l.disk; out = g.K.Sink.written l.out; marks = l.marks.items } in
-    let script : List ℕ = g.S.Source.left c.args.script.now in
-    let plan = plan_from l.place.lines l.place.commands (lines_of (l.lines ++ g.S.Source.left l.script)) in
-    let later = plan_from ask.place.lines ask.place.commands (lines_of (ask.lines ++ g.S.Source.left ask.script)) in
-    let i = l.invariant in
-    let asked = c.in-Ok-Blank in
-    let same : ask.place.commands ≡ l.place.commands = goes_blank asked.field-0 l.place.lines ask.place.lines l.place.commands ask.place.commands asked.field-0-is asked.ensures.goes in
-    record {
-      so_far = λ told told_in told_out old first began.
-          blank_more script old first plan later l.place.commands ask.place.commands now (i.so_far told told_in told_out old first began)
-          (is_blank asked.field-0 plan later asked.field-0-is (asked.ensures.asks told_in)) same;
-      shown = i.shown;
+      so_far = λ told meaning means trusted.
+          let l = c.lines in
+          let ask = c.next_ask.new in
+          let now = point l.session (g.D.Disk.past l.disk) (g.D.Disk.faults l.disk) (g.K.Sink.written l.out) in
+          let past = g.D.Disk.past c.args.disk.now in
+          let old : World = unbegun meaning past (g.D.Disk.faults c.args.disk.now) in
+          let out : List ℕ = g.K.Sink.written c.args.out.now in
+          let script : List ℕ = g.S.Source.left c.args.script.now in
+          let plan = plan_from l.place.lines l.place.commands (lines_of (l.lines ++ g.S.Source.left l.script)) in
+          let later = plan_from ask.place.lines ask.place.commands (lines_of (ask.lines ++ g.S.Source.left ask.script)) in
+          let s = l.invariant.so_far told meaning means trusted in
+          blank_more g.S.Source.tells g.K.Sink.tells script old out plan later l.place.commands ask.place.commands now
+          (g.K.Sink.written ask.out) ask.text.items
+          (λ told_in. is_blank asked.field-0 plan later c.in-Blank.is (asked.ensures.asks told_in)) same
+          (λ told_out. asked.ensures.printed told_out) (less_of l.session.text.items ask.text.items asked.ensures.gathered) s;
+      whole = i.whole;
       log = i.log;
-      few = subst (λ n. IsFew l.node (n + 1)) (sym same) i.few;
+      few = subst (λ n. IsFew c.lines.session.node (n + 1)) (sym same) i.few;
       down = i.down;
       within = asked.ensures.within;
       most = asked.ensures.few;
       reads = omega (arith, i.reads, asked.ensures.cause.later);
-      writes = i.writes;
+      writes = omega (arith, i.writes, asked.ensures.write.later);
+      touches = i.touches;
       disks = i.disks;
     }
 
-pub returns-in-Err-serve-clause-ran : goal.returns-in-Err-serve-clause-ran
-returns-in-Err-serve-clause-ran g c told told_in told_out old first began =
+pub returns-in_err-flush_much-in-Do-clause-gave : goal.returns-in_err-flush_much-in-Do-clause-gave
+returns-in_err-flush_much-in-Do-clause-gave g c told meaning means trusted =
+    let p = err_from_is_err_and c.from_residual-in_err-flush_much-in-Do.result c.from_residual-in_err-flush_much-in-Do.ensures.1 in
     let l = c.lines in
     let ask = c.next_ask.new in
-    let now : Point = record { node = l.node; past = g.D.Disk.past l.disk; faults = g.D.Disk.faults l.disk; out = g.K.Sink.written l.out; marks = l.marks.items } in
-    let new : Point =
-    record { node = c.serve.new.node; past = g.D.Disk.past c.serve.new.disk; faults = g.D.Disk.faults c.serve.new.disk; out = g.K.Sink.written c.serve.new.out; marks = c.serve.new.marks.items } in
+    let now = point l.session (g.D.Disk.past l.disk) (g.D.Disk.faults l.disk) (g.K.Sink.written l.out) in
+    let past = g.D.Disk.past c.args.disk.now in
+    let old : World = unbegun meaning past (g.D.Disk.faults c.args.disk.now) in
+    let out : List ℕ = g.K.Sink.written c.args.out.now in
     let script : List ℕ = g.S.Source.left c.args.script.now in
     let plan = plan_from l.place.lines l.place.commands (lines_of (l.lines ++ g.S.Source.left l.script)) in
     let later = plan_from ask.place.lines ask.place.commands (lines_of (ask.lines ++ g.S.Source.left ask.script)) in
-    let s = l.invariant.so_far told told_in told_out old first began in
-    let asked = c.in-Ok-Do in
-    let next : ask.place.commands ≡ l.place.commands + 1 = goes_do asked.field-0 asked.command l.place.lines ask.place.lines l.place.commands ask.place.commands asked.field-0-is asked.ensures.goes in
-    do_ends script old first plan later l.place.commands ask.place.commands now new s asked.command c.in-Err-serve.status (is_do asked.field-0 asked.command plan later asked.field-0-is (asked.ensures.asks told_in)) next
-    (c.in-Err-serve.ensures.served told_out told old.past (last_of old s.front.events).machine s.front.shows) c.in-Err-serve.ensures.only
+    let s = l.invariant.so_far told meaning means trusted in
+    let asked = c.in_ok-next_ask in
+    let read_out : List ℕ = g.K.Sink.written ask.out in
+    let line = c.in-Do.line in
+    let at : Point = record now { out = read_out; text = ask.text.items } in
+    let f =
+    at_event g.S.Source.tells g.K.Sink.tells script old out plan l.place.commands now
+    (event line ∷ todo_of later) later.over read_out ask.text.items
+    (do_is g.S.Source.tells g.K.Sink.tells script old out plan later line
+    (λ told_in. is_do asked.field-0 line plan later c.in-Do.is (asked.ensures.asks told_in)))
+    (λ told_out. asked.ensures.printed told_out)
+    (less_of l.session.text.items ask.text.items asked.ensures.gathered) s in
+    let flushed : List ℕ = g.K.Sink.written c.flush_much.new.out in
+    let end = c.in_err-flush_much-in-Do.field-0.0 in
+    gave_err g.S.Source.tells g.K.Sink.tells script old out end c.from_residual-in_err-flush_much-in-Do.result
+    (record now { out = flushed; text = c.flush_much.new.text.items }) (p.1 ∙ ap Err p.2)
+    (flush_ends g.S.Source.tells g.K.Sink.tells script old out (counts_from l.place.commands)
+    (event line ∷ todo_of later) later.over at flushed c.flush_much.new.text.items end f c.in_err-flush_much-in-Do.ensures.only
+    (λ told_out. c.in_err-flush_much-in-Do.ensures.printed told_out))
 
-pub returns-in-Err-serve-clause-over : goal.returns-in-Err-serve-clause-over
-returns-in-Err-serve-clause-over g c told first machine shows =
-    let l = c.lines in
-    let h = c.in-Err-serve.ensures in
-    let was = l.invariant.shown told first machine shows in
-    over_serve first machine.damage c.in-Err-serve.status c.serve.new.node (g.D.Disk.past c.serve.new.disk)
-    (shows_more first machine.damage l.node c.serve.new.node (g.D.Disk.past l.disk) (g.D.Disk.past c.serve.new.disk) was (seen.order c.in-Ok-Do.command) (h.steps told first was.machine was.shows))
-    l.node (g.D.Disk.past l.disk) was h.only (λ name at is. h.damaged told name at (ap (λ e. Err e) is))
+pub lines-preserved : goal.lines-preserved
+lines-preserved g c =
+    let i = c.lines.invariant in
+    let asked = c.in_ok-next_ask in
+    let served = c.in_ok-serve-in-Do.ensures in
+    let next : c.next_ask.new.place.commands ≡ c.lines.place.commands + 1 =
+    goes_do asked.field-0 c.in-Do.line c.lines.place.lines c.next_ask.new.place.lines c.lines.place.commands
+    c.next_ask.new.place.commands c.in-Do.is asked.ensures.goes in
+    record {
+      so_far = λ told meaning means trusted.
+          let l = c.lines in
+          let ask = c.next_ask.new in
+          let now = point l.session (g.D.Disk.past l.disk) (g.D.Disk.faults l.disk) (g.K.Sink.written l.out) in
+          let past = g.D.Disk.past c.args.disk.now in
+          let old : World = unbegun meaning past (g.D.Disk.faults c.args.disk.now) in
+          let out : List ℕ = g.K.Sink.written c.args.out.now in
+          let script : List ℕ = g.S.Source.left c.args.script.now in
+          let plan = plan_from l.place.lines l.place.commands (lines_of (l.lines ++ g.S.Source.left l.script)) in
+          let later = plan_from ask.place.lines ask.place.commands (lines_of (ask.lines ++ g.S.Source.left ask.script)) in
+          let s = l.invariant.so_far told meaning means trusted in
+          let read_out : List ℕ = g.K.Sink.written ask.out in
+          let line = c.in-Do.line in
+          let at : Point = record now { out = read_out; text = ask.text.items } in
+          let f =
+          at_event g.S.Source.tells g.K.Sink.tells script old out plan l.place.commands now
+          (event line ∷ todo_of later) later.over read_out ask.text.items
+          (do_is g.S.Source.tells g.K.Sink.tells script old out plan later line
+          (λ told_in. is_do asked.field-0 line plan later c.in-Do.is (asked.ensures.asks told_in)))
+          (λ told_out. asked.ensures.printed told_out)
+          (less_of l.session.text.items ask.text.items asked.ensures.gathered) s in
+          let flushed : List ℕ = g.K.Sink.written c.flush_much.new.out in
+          let here : Point = record now { out = flushed; text = c.flush_much.new.text.items } in
+          let h =
+          front_on g.S.Source.tells g.K.Sink.tells script old out (counts_from l.place.commands)
+          (event line ∷ todo_of later) later.over at flushed c.flush_much.new.text.items
+          (λ told_out. c.in_ok-flush_much-in-Do.ensures.printed told_out)
+          (less_of ask.text.items c.flush_much.new.text.items c.in_ok-flush_much-in-Do.ensures.gathered) f in
+          let following : ask.place.commands ≡ l.place.commands + 1 =
+          goes_do asked.field-0 line l.place.lines ask.place.lines l.place.commands ask.place.commands c.in-Do.is asked.ensures.goes in
+          let session : Session = record l.session { text = c.flush_much.new.text } in
+          let few : length c.flush_much.new.text.items ≤ MOST_GATHERED = omega (arith, c.in_ok-flush_much-in-Do.ensures.few) in
+          do_more g.S.Source.tells g.K.Sink.tells script old out later l.place.commands ask.place.commands here line h following session
+          c.serve-in-Do.new.self (g.D.Disk.past c.serve-in-Do.new.disk) (g.D.Disk.faults c.serve-in-Do.new.disk) refl refl few
+          (served.served told past (last_of old s.acts).machine s.shows);
+      whole = served.whole;
+      log = served.log;
+      few = served.few c.next_ask.new.place.commands (subst (IsFew c.lines.session.node) (sym next) i.few);
+      down = λ down. down_more (IsFaulted c.lines.session.node.state) (g.D.Disk.faults c.args.disk.now) (g.D.Disk.faults c.lines.disk)
+          (g.D.Disk.faults c.serve-in-Do.new.disk) i.disks served.later i.down (served.down down);
+      within = asked.ensures.within;
+      most = asked.ensures.few;
+      reads = omega (arith, i.reads, asked.ensures.cause.later);
+      writes = omega (arith, i.writes, asked.ensures.write.later, c.in_ok-flush_much-in-Do.ensures.write.later);
+      touches = λ told. then_touched IsLogName _ _ _ (i.touches told) (served.touches told);
+      disks = omega (arith, i.disks, served.later);
+    }
 
-pub returns-in-Err-clause-ran : goal.returns-in-Err-clause-ran
-returns-in-Err-clause-ran g c told told_in told_out old first began =
+pub returns-in_err-serve-in-Do-clause-gave : goal.returns-in_err-serve-in-Do-clause-gave
+returns-in_err-serve-in-Do-clause-gave g c told meaning means trusted =
+    let p = err_from_is_err_and c.from_residual-in_err-serve-in-Do.result c.from_residual-in_err-serve-in-Do.ensures.1 in
     let l = c.lines in
     let ask = c.next_ask.new in
-    let now : Point = record { node = l.node; past = g.D.Disk.past l.disk; faults = g.D.Disk.faults l.disk; out = g.K.Sink.written l.out; marks = l.marks.items } in
+    let now = point l.session (g.D.Disk.past l.disk) (g.D.Disk.faults l.disk) (g.K.Sink.written l.out) in
+    let past = g.D.Disk.past c.args.disk.now in
+    let old : World = unbegun meaning past (g.D.Disk.faults c.args.disk.now) in
+    let out : List ℕ = g.K.Sink.written c.args.out.now in
     let script : List ℕ = g.S.Source.left c.args.script.now in
     let plan = plan_from l.place.lines l.place.commands (lines_of (l.lines ++ g.S.Source.left l.script)) in
     let later = plan_from ask.place.lines ask.place.commands (lines_of (ask.lines ++ g.S.Source.left ask.script)) in
-    read_ends script old first plan later l.place.commands now (l.invariant.so_far told told_in told_out old first began) c.in-Err.status (c.in-Err.ensures.asks told_in) c.in-Err.ensures.only
+    let s = l.invariant.so_far told meaning means trusted in
+    let asked = c.in_ok-next_ask in
+    let read_out : List ℕ = g.K.Sink.written ask.out in
+    let line = c.in-Do.line in
+    let at : Point = record now { out = read_out; text = ask.text.items } in
+    let f =
+    at_event g.S.Source.tells g.K.Sink.tells script old out plan l.place.commands now
+    (event line ∷ todo_of later) later.over read_out ask.text.items
+    (do_is g.S.Source.tells g.K.Sink.tells script old out plan later line
+    (λ told_in. is_do asked.field-0 line plan later c.in-Do.is (asked.ensures.asks told_in)))
+    (λ told_out. asked.ensures.printed told_out)
+    (less_of l.session.text.items ask.text.items asked.ensures.gathered) s in
+    let flushed : List ℕ = g.K.Sink.written c.flush_much.new.out in
+    let here : Point = record now { out = flushed; text = c.flush_much.new.text.items } in
+    let h =
+    front_on g.S.Source.tells g.K.Sink.tells script old out (counts_from l.place.commands)
+    (event line ∷ todo_of later) later.over at flushed c.flush_much.new.text.items
+    (λ told_out. c.in_ok-flush_much-in-Do.ensures.printed told_out)
+    (less_of ask.text.items c.flush_much.new.text.items c.in_ok-flush_much-in-Do.ensures.gathered) f in
+    let next : ask.place.commands ≡ l.place.commands + 1 =
+    goes_do asked.field-0 line l.place.lines ask.place.lines l.place.commands ask.place.commands c.in-Do.is asked.ensures.goes in
+    let session : Session = record l.session { text = c.flush_much.new.text } in
+    let few : length c.flush_much.new.text.items ≤ MOST_GATHERED = omega (arith, c.in_ok-flush_much-in-Do.ensures.few) in
+    let end = c.in_err-serve-in-Do.field-0.0 in
+    let new = c.serve-in-Do.new.self in
+    gave_err g.S.Source.tells g.K.Sink.tells script old out end c.from_residual-in_err-serve-in-Do.result
+    (point new (g.D.Disk.past c.serve-in-Do.new.disk) (g.D.Disk.faults c.serve-in-Do.new.disk) flushed) (p.1 ∙ ap Err p.2)
+    (do_ends g.S.Source.tells g.K.Sink.tells script old out later l.place.commands ask.place.commands here line h next session new
+    (g.D.Disk.past c.serve-in-Do.new.disk) (g.D.Disk.faults c.serve-in-Do.new.disk) refl refl few
+    end (c.in_err-serve-in-Do.ensures.served told past (last_of old s.acts).machine s.shows) c.in_err-serve-in-Do.ensures.only)
 
-pub returns-in-Err-clause-over : goal.returns-in-Err-clause-over
-returns-in-Err-clause-over g c told first machine shows =
-    let l = c.lines in
-    over_read first machine.damage c.in-Err.status l.node (g.D.Disk.past l.disk) (l.invariant.shown told first machine shows) c.in-Err.ensures.only
+pub returns-in-End-clause-touches : goal.returns-in-End-clause-touches
+returns-in-End-clause-touches g c told = then_touched IsLogName _ _ _ (c.lines.invariant.touches told) (c.end.ensures.touches told)
+
+pub returns-in_err-serve-in-Do-clause-touches : goal.returns-in_err-serve-in-Do-clause-touches
+returns-in_err-serve-in-Do-clause-touches g c told =
+    then_touched IsLogName _ _ _ (c.lines.invariant.touches told) (c.in_err-serve-in-Do.ensures.touches told)

@@ -1,12 +1,10 @@
-use Rattle.std.proofs.Common.{lit≤}
-use Rattle.txn_log.proofs.Acts.{only_bad}
 use Rattle.txn_log.proofs.Making.{no_draft, not_published, published}
 use Rattle.txn_log.proofs.log.made.Goals as goal
 
 pub returns-in-Err-clause-opens : goal.returns-in-Err-clause-opens
 returns-in-Err-clause-opens g c told =
     no_draft (g.D.Disk.past c.args.disk.now) (g.D.Disk.past c.draft.new.disk) c.latest.result c.latest.ensures.value (c.requires told) (c.in-Err.ensures.touches told) c.in-Err.error
-    (λ other at is. only_bad c.in-Err.error other at (c.in-Err.ensures.only (lit≤ tt)) is) (c.in-Err.ensures.others told)
+    (c.in-Err.ensures.others told)
 
 pub returns-in-Ok-publish-clause-opens : goal.returns-in-Ok-publish-clause-opens
 returns-in-Ok-publish-clause-opens g c told =
@@ -20,4 +18,4 @@ returns-in-Err-publish-clause-opens g c told =
     not_published (g.D.Disk.past c.args.disk.now) (g.D.Disk.past c.draft.new.disk) c.latest.result c.latest.ensures.value (c.requires told) (c.in-Ok.ensures.touches told) (g.D.Disk.past c.publish.new.disk)
     c.in-Ok.log c.in-Ok.ensures.log (c.in-Ok.ensures.reads told) (c.in-Ok.ensures.made told) (c.in-Ok.ensures.others told)
     (λ whole. c.in-Err-publish.ensures.any_moment whole told) (λ items. c.in-Err-publish.ensures.sound items told) (c.in-Err-publish.ensures.touches told)
-    c.in-Err-publish.error (λ other at is. only_bad c.in-Err-publish.error other at c.in-Err-publish.ensures.only is) (c.in-Err-publish.ensures.left told)
+    c.in-Err-publish.error (c.in-Err-publish.ensures.left told)

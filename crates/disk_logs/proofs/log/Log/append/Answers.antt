@@ -1,11 +1,18 @@
 use Rattle.std.proofs.Common.{◌++◌, inl, ap, ◌∙◌}
+use Rattle.std.proofs.lemmas.Result.{err_from_is_err_and}
 use Rattle.file_trait.proofs.Touched.{then_touched, append_touches}
 use Rattle.disk_logs.specs.Logs.{Handle, file_of}
-use Rattle.disk_logs.proofs.Appends.{appended}
+use Rattle.disk_logs.proofs.Appends.{appended, not_opened}
 use Rattle.disk_logs.proofs.Effects.{appended_kept}
 use Rattle.disk_logs.proofs.Handles.{leaves_of, sound_of, more_of, wanted_kept, wanted_moments, appends_stands, appends_moments}
 use Rattle.disk_logs.proofs.Handles.{appends_drafted}
 use Rattle.disk_logs.proofs.log.Log.append.Goals as goal
+
+pub returns-in_err-open-clause-appended : goal.returns-in_err-open-clause-appended
+returns-in_err-open-clause-appended g c all more told is here =
+    let p = err_from_is_err_and c.from_residual.result c.from_residual.ensures.1 in
+    not_opened _ _ _ _ _ _ _ all more _ p.1 p.2 c.in_err-open.was (λ wanted. ap (λ (h : Handle). h.closed) (c.open.ensures.wanted wanted))
+    (c.open.ensures.marked all told here)
 
 pub returns-in_err-open-clause-any_moment : goal.returns-in_err-open-clause-any_moment
 returns-in_err-open-clause-any_moment g c all more synced told fit is stands =

@@ -1,6 +1,3 @@
-use Rattle.std.proofs.Common.{◌∷◌, [], true, ap, ◌∙◌, sym, subst}
-use Rattle.log_items.specs.Items.{log_bytes}
-use Rattle.disk_logs.specs.Logs.{draft_name as name_of_draft}
 use Rattle.disk_logs.proofs.Drafts.{renamed_touches, others_read}
 use Rattle.disk_logs.proofs.log.Log.draft.Goals as goal
 

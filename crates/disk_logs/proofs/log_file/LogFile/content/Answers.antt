@@ -1,4 +1,4 @@
-use Rattle.std.proofs.Common.{◌≤◌, ◌+◌, arith, ap, length}
+use Rattle.std.proofs.Common.{arith, ap, length}
 use Rattle.disk_logs.proofs.ReadLemmas.{content_within, content_is}
 use Rattle.disk_logs.proofs.log_file.LogFile.content.Goals as goal
 

@@ -1,9 +1,14 @@
 use Rattle.std.proofs.Common.{subst}
 use Rattle.std.proofs.lemmas.Result.{err_from_is_err_and}
 use Rattle.log_items.specs.Scan.{IsScan}
-use Rattle.disk_logs.proofs.Publishing.{same_error}
+use Rattle.disk_logs.proofs.Publishing.{same_error, same_cause}
 use Rattle.disk_logs.proofs.ReadLemmas.{refused, was_read}
 use Rattle.disk_logs.proofs.log_file.LogFile.read.Goals as goal
+
+pub returns-in_err-bytes-clause-cause : goal.returns-in_err-bytes-clause-cause
+returns-in_err-bytes-clause-cause g c =
+    let p = err_from_is_err_and c.from_residual.result c.from_residual.ensures.1 in
+    same_cause _ _ _ _ _ _ _ p.1 p.2 c.in_err-bytes.was c.read_file.ensures.cause
 
 pub returns-in_err-scan-clause-read : goal.returns-in_err-scan-clause-read
 returns-in_err-scan-clause-read g c told =

@@ -1,0 +1,11 @@
+pub mod Acts
+pub mod Contents
+pub mod Directories
+pub mod Loading
+pub mod MachineLaws
+pub mod NodeFacts
+pub mod NodeOwes
+pub mod NodeStarts
+pub mod NodeSteps
+pub mod Prefixes
+pub mod Records

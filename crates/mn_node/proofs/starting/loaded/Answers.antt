@@ -1,0 +1,11 @@
+use Rattle.std.proofs.Common.{Option, subst}
+use Rattle.disk_logs.specs.Logs.{FileRead}
+use Rattle.txn_log.specs.Logs.{IsAsRead}
+use Rattle.mn_node.specs.Meaning.{latest}
+use Rattle.mn_node.proofs.Loading.{items_broken}
+use Rattle.mn_node.proofs.starting.loaded.Goals as goal
+
+pub returns-in-Some-clause-damaged : goal.returns-in-Some-clause-damaged
+returns-in-Some-clause-damaged c files as_read name at is =
+    let there = subst (λ (o : Option FileRead). IsAsRead o (files latest)) c.in-Some.is as_read in
+    items_broken files c.in-Some.file name at c.table_of.ensures.whole there (c.table_of.ensures.damaged name at is)

@@ -1,0 +1,94 @@
+-- What a command does that is tried on an open log and its table.
+use Rattle.std.specs.Prelude.{◌≡◌, ◌⊎◌, ℕ, ◌+◌, Bool, true, false, IsTrue, if◌then◌else◌, List, [], ◌++◌, length, is_some, Result, Ok, Err}
+use Rattle.file_trait.specs.DiskModel.{Past, reads}
+use Rattle.file_trait.specs.Moments.{Moments}
+use Rattle.file_trait.specs.Touched.{Touches}
+use Rattle.disk_logs.specs.Crash.{IsSound}
+use Rattle.disk_logs.specs.Errors.{OnlyFileOrMemory}
+use Rattle.disk_logs.specs.Logs.{IsLog}
+use Rattle.disk_logs.specs.declared.error.LogErr.{LogErr}
+use Rattle.db_model.specs.Commits.{CommitRecord}
+use Rattle.txn_log.specs.Logs as logs
+use Rattle.txn_log.specs.Logs.{Reads, handle, IsLogName}
+use Rattle.mn_node.specs.Machine.{Effect, Answer, entries_of, goes_to_disk, is_no_memory, is_fault, no_memory, fault, is_down}
+use Rattle.mn_node.specs.Meaning.{latest}
+use Rattle.mn_node.specs.Seen.{answer}
+use Rattle.mn_node.specs.Shown.{OpenShows, commits_of}
+use Rattle.mn_node.specs.declared.node.Node.{Node}
+use Rattle.mn_node.specs.declared.node.State.TheVariants.{Stopped, Faulted}
+use Rattle.mn_node.specs.declared.open.Done.{Done}
+use Rattle.mn_node.specs.declared.open.Open.{Open}
+use Rattle.mn_node.specs.declared.open.Trouble.{Trouble}
+use Rattle.mn_node.specs.declared.open.Trouble.TheVariants.{File, Memory}
+
+-- as a call on an open log fails
+abbrev pub IsFileOrMemory : LogErr → Type 0
+IsFileOrMemory error = OnlyFileOrMemory {T = Unit {0}} (Err error)
+
+-- the commit that an effect appends
+abbrev pub appended : Effect → List CommitRecord
+appended e = commits_of (entries_of e.entry)
+
+-- this was done
+pub record IsDone (e : Effect) (done : Done) : Type 0 where
+  pub answer : answer done.reply ≡ e.answer
+  pub wrote : done.wrote ≡ is_some e.entry
+  pub settles : done.settles ≡ e.settles
+  pub halts : done.halts ≡ e.halts
+
+-- Where it was done, the log has its commit. Where memory was wanting, all is as before. Where the disk failed, the log
+-- may have its commit or not.
+abbrev pub ComesOut : Effect → List CommitRecord → ℕ → Result Done Trouble → Open → Past → Type 0
+ComesOut e commits synced (Ok done) live past =
+    IsDone e done
+    × OpenShows live past (commits ++ appended e) (if e.settles then length (commits ++ appended e) else synced)
+    × (IsTrue e.halts → live.log.closed ≡ true)
+ComesOut e commits synced (Err Memory) live past = IsTrue e.takes_memory × OpenShows live past commits synced
+ComesOut e commits synced (Err (File name doubt)) live past =
+    IsTrue (goes_to_disk e) × (name ≡ latest) × (doubt ≡ is_some e.entry)
+    × (Reads commits (reads past latest) ⊎ Reads (commits ++ appended e) (reads past latest))
+
+-- what a crash may find added
+abbrev pub more_of : Effect → Result Done Trouble → List CommitRecord
+more_of e (Err Memory) = []
+more_of e other = appended e
+
+-- A command with this effect was tried on a log with these commits, of which so many were durable.
+pub record Tries (e : Effect) (commits : List CommitRecord) (synced : ℕ) (result : Result Done Trouble) (live : Open)
+    (before now : Past) : Type 0 where
+  pub out : ComesOut e commits synced result live now
+  pub during : Moments (logs.Leaves (commits ++ more_of e result) synced) before now
+  pub sound : Moments (λ past. IsSound past latest) before now
+  pub touches : Touches IsLogName before now
+
+-- the log is a file of items, where the node stays up
+abbrev pub StaysLog : Result Done Trouble → Past → Open → Type 0
+StaysLog (Ok done) past live = done.halts ≡ false → IsLog past (handle live.log)
+StaysLog (Err Memory) past live = IsLog past (handle live.log)
+StaysLog (Err (File name doubt)) past live = Unit {0}
+
+-- the answer is neither a fault nor want of memory, nor that the node is down
+pub record IsPlain (answer : Answer) : Type 0 where
+  pub fault : is_fault answer ≡ false
+  pub memory : is_no_memory answer ≡ false
+  pub up : answer ≡ is_down → ⊥
+
+-- ---- what the node is then
+
+abbrev pub counted : Bool → ℕ → ℕ
+counted wrote n = if wrote then n + 1 else n
+
+abbrev pub settled_node : Node → Done → Node
+settled_node old done = record old {
+  state = if done.halts then Stopped else old.state;
+  entries = counted done.wrote old.entries;
+  synced = if done.settles then counted done.wrote old.entries else old.synced;
+}
+
+abbrev pub failed_node : Node → Trouble → Node
+failed_node old Memory = old
+failed_node old (File name doubt) = record old { state = Faulted; entries = counted doubt old.entries }
+
+abbrev pub failed_answer : Trouble → Answer
+failed_answer Memory = no_memory
+failed_answer (File name doubt) = fault name
