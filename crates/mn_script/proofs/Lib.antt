@@ -1,0 +1,16 @@
+pub mod Argument
+pub mod Asking
+pub mod Blanks
+pub mod Fields
+pub mod Lines
+pub mod Meaning
+pub mod Memory
+pub mod Others
+pub mod OverForms
+pub mod Places
+pub mod Readers
+pub mod Refusals
+pub mod Tables
+pub mod Taken
+pub mod Texts
+pub mod Wrong

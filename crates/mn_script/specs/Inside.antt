@@ -1,0 +1,2 @@
+-- What only this crate's own calls cite. What the crate promises stands beside this folder.
+pub mod Parts

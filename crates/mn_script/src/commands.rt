@@ -1,0 +1,143 @@
+//! The commands of a script.
+
+ghost use Rattle.std.specs.Prelude.{◌≡◌, ◌≢◌, ℕ, List, [], map, true};
+ghost use Rattle.std.specs.Option.{option_map};
+ghost use Rattle.term_core.specs.View.{tree_of};
+ghost use Rattle.mn_script.specs.Forms.{shape_of, is_table};
+ghost use Rattle.mn_script.specs.Grammar.{HasArgument};
+ghost use Rattle.mn_script.specs.Commands as commands;
+ghost use Rattle.mn_script.specs.Commands.{Answers, Asked, IsMeant, asked, seen};
+
+use crate::arguments::{atom_and_term, no_argument};
+use crate::forms::{Form, Kind};
+use crate::reading::{LineErr, read_line};
+use sqlite_items::Items;
+use std::alloc::Global;
+use term_core::{Atom, Term};
+
+/// What a line asks for.
+#[derive(Drop)]
+pub enum Command {
+    /// To start a node that is down.
+    Start,
+    /// To stop a node that is up.
+    Stop,
+    /// To make the log durable.
+    SyncLog,
+    /// To write this record into the table.
+    Put(Atom, Term),
+    /// The records of the table with this key.
+    Get(Atom, Term),
+}
+
+/// The forms of the commands, each with the number by which `command_of` knows it.
+const FORMS: [Form<'static>; 5] = [
+    Form {
+        word: b"start",
+        kinds: &[],
+    },
+    Form {
+        word: b"stop",
+        kinds: &[],
+    },
+    Form {
+        word: b"sync_log",
+        kinds: &[],
+    },
+    Form {
+        word: b"put",
+        kinds: &[Kind::Atom, Kind::Term],
+    },
+    Form {
+        word: b"get",
+        kinds: &[Kind::Atom, Kind::Term],
+    },
+];
+
+/// The words of commands that are not here yet.
+const LATER: [&[u8]; 30] = [
+    b"dump_log",
+    b"create_table",
+    b"delete_table",
+    b"tables",
+    b"table_info",
+    b"add_table_index",
+    b"del_table_index",
+    b"transform_table",
+    b"begin",
+    b"write",
+    b"delete",
+    b"delete_object",
+    b"read",
+    b"match_object",
+    b"index_read",
+    b"all_keys",
+    b"commit",
+    b"abort",
+    b"activate_checkpoint",
+    b"deactivate_checkpoint",
+    b"checkpoint_read",
+    b"checkpoint_keys",
+    b"checkpoint_retained",
+    b"backup_checkpoint",
+    b"traverse_backup",
+    b"jobs",
+    b"restore",
+    b"install_fallback",
+    b"uninstall_fallback",
+    b"generate",
+];
+
+/// The command that a line asks for; `None` for a line of blanks and for a comment. A line that is no
+/// command's is refused at its place.
+pub fn read_command(alloc: Global, line: &[u8]) -> Result<Option<Command>, LineErr>
+    ensures command { Answers result (asked line.now) }
+    // Memory is taken only where an argument is due and may begin.
+    ensures memory { result ≡ Err LineErr.Memory → HasArgument commands.forms line.now }
+{
+    match read_line(alloc, command_forms(), later_words(), line) {
+        Ok(Some((number, arguments))) => Ok(command_of(number, arguments)),
+        Ok(None) => Ok(None),
+        Err(error) => Err(error),
+    }
+}
+
+/// What a line asks for is what is meant by it, and nothing else is: `IsMeant` says which lines ask for nothing, which
+/// for which command, and at which place each other line is refused.
+pub fn command_laws()
+    ensures means { (line : List ℕ) → IsMeant line (asked line) }
+    ensures only { (line : List ℕ) (what : Asked) → IsMeant line what → asked line ≡ what }
+{}
+
+/// The command of the form of this number. There is none where the form has other arguments.
+fn command_of(number: usize, arguments: Items<Term>) -> Option<Command>
+    ensures { option_map seen result ≡ commands.made number (map tree_of arguments) }
+{
+    match number {
+        0 => no_argument(&arguments).map(|()| Command::Start),
+        1 => no_argument(&arguments).map(|()| Command::Stop),
+        2 => no_argument(&arguments).map(|()| Command::SyncLog),
+        3 => atom_and_term(arguments).map(|(table, record)| Command::Put(table, record)),
+        4 => atom_and_term(arguments).map(|(table, key)| Command::Get(table, key)),
+        _ => None,
+    }
+}
+
+/// The forms of the commands.
+fn command_forms() -> &'static [Form<'static>]
+    ensures { map shape_of result.now ≡ commands.forms }
+{
+    &FORMS
+}
+
+fn later_words() -> &'static [&'static [u8]]
+    ensures { map (λ word. word.now) result.now ≡ commands.later }
+{
+    &LATER
+}
+
+/// The commands' forms are a table, as the laws of lines ask.
+pub fn forms_law()
+    ensures table { is_table commands.forms ≡ true }
+    ensures some { commands.forms ≢ [] }
+{}

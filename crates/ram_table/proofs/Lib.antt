@@ -1,0 +1,10 @@
+pub mod Increasing
+pub mod Parts
+pub mod InPage
+pub mod Located
+pub mod Paged
+pub mod Single
+pub mod Cuts
+pub mod Rooms
+pub mod Trees
+pub mod Plans
