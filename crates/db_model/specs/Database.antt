@@ -45,12 +45,15 @@ is_key_below key other = false
 
 -- the record comes before the other one: its key does, or it has that key and comes before it in the order of terms
 abbrev pub comes_before : Tree → Tree → Bool
-comes_before row other = if has_key_of (key_of row) other then is_lt (tree_cmp row other) else is_key_below (key_of row) (key_of other)
+comes_before row other =
+    if has_key_of (key_of row) other then is_lt (tree_cmp row other)
+    else is_key_below (key_of row) (key_of other)
 
 -- the record at its place
 abbrev pub with_record : Tree → Contents → Contents
 with_record row [] = row ∷ []
-with_record row (other ∷ others) = if comes_before row other then row ∷ other ∷ others else other ∷ with_record row others
+with_record row (other ∷ others) =
+    if comes_before row other then row ∷ other ∷ others else other ∷ with_record row others
 
 abbrev pub put_record : Kind → Tree → Contents → Contents
 put_record Bag row contents = if list_any (same_tree row) contents then contents else with_record row contents
@@ -65,7 +68,7 @@ put_op kind (clear table) contents = []
 
 -- ---- tables
 
--- a table's definition, whose cookie is left out, with its contents
+-- a table's definition with its contents
 pub record Table : Type 0 where
   pub definition : Definition
   pub contents : Contents
@@ -93,8 +96,11 @@ contents_in name (table ∷ tables) = if is_called name table then table.content
 abbrev pub change_table : List ℕ → (Table → Table) → List Table → List Table
 change_table name change tables = map (λ table. if is_called name table then change table else table) tables
 
+abbrev pub with_op : Operation → Table → Table
+with_op op table = record table { contents = put_op table.definition.kind op table.contents }
+
 abbrev pub do_op : Operation → List Table → List Table
-do_op op tables = change_table (table_of op) (λ table. record table { contents = put_op table.definition.kind op table.contents }) tables
+do_op op tables = change_table (table_of op) (with_op op) tables
 
 abbrev pub do_ops : List Operation → List Table → List Table
 do_ops [] tables = tables
@@ -104,27 +110,32 @@ do_ops (op ∷ ops) tables = do_ops ops (do_op op tables)
 abbrev pub with_table : Table → List Table → List Table
 with_table table [] = table ∷ []
 with_table table (other ∷ others) =
-    if is_lt (slice_cmp nat_cmp table.definition.name other.definition.name) then table ∷ other ∷ others else other ∷ with_table table others
-
-abbrev pub without_cookie : Definition → Definition
-without_cookie definition = record definition { cookie = 0 }
+    if is_lt (slice_cmp nat_cmp table.definition.name other.definition.name) then table ∷ other ∷ others
+    else other ∷ with_table table others
 
 abbrev pub empty_table : Definition → Table
-empty_table definition = record { definition = without_cookie definition; contents = [] }
+empty_table definition = record { definition = definition; contents = [] }
 
 -- the positions, with this one at its place
 abbrev pub with_position : ℕ → List ℕ → List ℕ
 with_position position [] = position ∷ []
-with_position position (other ∷ others) = if is_lt (nat_cmp position other) then position ∷ other ∷ others else other ∷ with_position position others
+with_position position (other ∷ others) =
+    if is_lt (nat_cmp position other) then position ∷ other ∷ others else other ∷ with_position position others
 
 abbrev pub with_index : List ℕ → Table → Table
 with_index index table = record table { definition = record table.definition { index = index } }
 
+abbrev pub indexed : ℕ → Table → Table
+indexed position table = with_index (with_position position table.definition.index) table
+
+abbrev pub unindexed : ℕ → Table → Table
+unindexed position table = with_index (filter (λ other. not (other == position)) table.definition.index) table
+
 abbrev pub do_schema_op : SchemaOperation → List Table → List Table
 do_schema_op (create definition) tables = with_table (empty_table definition) tables
 do_schema_op (drop_table name) tables = filter (λ table. not (is_called name table)) tables
-do_schema_op (add_index name position) tables = change_table name (λ table. with_index (with_position position table.definition.index) table) tables
-do_schema_op (del_index name position) tables = change_table name (λ table. with_index (filter (λ other. not (other == position)) table.definition.index) table) tables
+do_schema_op (add_index name position) tables = change_table name (indexed position) tables
+do_schema_op (del_index name position) tables = change_table name (unindexed position) tables
 do_schema_op (remake definition) tables = change_table definition.name (λ table. empty_table definition) tables
 
 abbrev pub do_schema_ops : List SchemaOperation → List Table → List Table
@@ -133,4 +144,7 @@ do_schema_ops (op ∷ ops) tables = do_schema_ops ops (do_schema_op op tables)
 
 -- the schema operations in order, then the ops in order; the version is the commit's
 abbrev pub do_commit : CommitRecord → Database → Database
-do_commit commit database = record { version = commit.version; tables = do_ops commit.operations (do_schema_ops commit.schema_operations database.tables) }
+do_commit commit database = record {
+  version = commit.version;
+  tables = do_ops commit.operations (do_schema_ops commit.schema_operations database.tables);
+}

@@ -1,6 +1,11 @@
 pub mod Commits
 pub mod Database
 pub mod Definitions
+pub mod Lawful
 pub mod Names
+pub mod Options
 pub mod Ops
+pub mod Records
+pub mod SchemaTerms
+pub mod Taken
 pub mod View

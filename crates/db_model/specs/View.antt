@@ -1,8 +1,9 @@
--- Definitions, ops and commits seen as plain data.
-use Rattle.std.specs.Prelude.{map}
+-- Definitions, what options say, ops and commits seen as plain data.
+use Rattle.std.specs.Prelude.{[], map}
 use Rattle.term_core.specs.View.{tree_of}
 use Rattle.db_model.specs.Commits.{SchemaOperation, create, drop_table, add_index, del_index, remake, CommitRecord}
 use Rattle.db_model.specs.Definitions.{Definition}
+use Rattle.db_model.specs.Options.{TableSetting, kind_is, record_name_is, attributes_are, indexed_are}
 use Rattle.db_model.specs.Ops.{Operation, write, delete, delete_object, clear}
 use Rattle.db_model.specs.declared.commit.Commit.{Commit}
 use Rattle.db_model.specs.declared.commit.SchemaOp.{SchemaOp}
@@ -10,6 +11,8 @@ use Rattle.db_model.specs.declared.commit.SchemaOp.TheVariants.{Create, DropTabl
 use Rattle.db_model.specs.declared.definition.TableDef.{TableDef}
 use Rattle.db_model.specs.declared.op.Op.{Op}
 use Rattle.db_model.specs.declared.op.Op.TheVariants.{Write, Delete, DeleteObject, Clear}
+use Rattle.db_model.specs.declared.setting.Setting.{Setting}
+use Rattle.db_model.specs.declared.setting.Setting.TheVariants.{Kind, RecordName, Attributes, NoIndex}
 
 abbrev pub definition : TableDef → Definition
 definition table = record { name = table.name; kind = table.kind; record_name = table.record_name; attributes = map tree_of table.attributes; index = table.index; cookie = table.cookie }
@@ -29,3 +32,9 @@ schema_operation (Remake table) = remake (definition table)
 
 abbrev pub commit_record : Commit → CommitRecord
 commit_record commit = record { version = commit.version; schema_operations = map schema_operation commit.schema_ops; operations = map operation commit.ops }
+
+abbrev pub setting : Setting → TableSetting
+setting (Kind kind) = kind_is kind
+setting (RecordName name) = record_name_is name
+setting (Attributes attributes) = attributes_are (map tree_of attributes)
+setting NoIndex = indexed_are []

@@ -27,7 +27,12 @@ pub fn op_term(alloc: Global, op: &Op) -> Result<Term, AllocError>
 }
 
 /// `{Word,Table,Item}`
-fn term_with_item(alloc: Global, word: &str, table: &Atom, item: &Term) -> Result<Term, AllocError>
+pub fn term_with_item(
+    alloc: Global,
+    word: &str,
+    table: &Atom,
+    item: &Term,
+) -> Result<Term, AllocError>
     ensures { IfOk result (λ term. tree_of term ≡ op_shape word.now table.now (tree (tree_of item.now) no_trees)) }
 {
     let mut parts = Items::new(alloc);
@@ -38,7 +43,7 @@ fn term_with_item(alloc: Global, word: &str, table: &Atom, item: &Term) -> Resul
 }
 
 /// `{Word,Table}`
-fn term_without_item(alloc: Global, word: &str, table: &Atom) -> Result<Term, AllocError>
+pub fn term_without_item(alloc: Global, word: &str, table: &Atom) -> Result<Term, AllocError>
     ensures { IfOk result (λ term. tree_of term ≡ op_shape word.now table.now no_trees) }
 {
     let mut parts = Items::new(alloc);
@@ -48,7 +53,7 @@ fn term_without_item(alloc: Global, word: &str, table: &Atom) -> Result<Term, Al
 }
 
 /// The atom of a word. The words that are given are of at most 255 characters, so that only memory may be wanting.
-fn word_term(alloc: Global, word: &str) -> Result<Term, AllocError>
+pub fn word_term(alloc: Global, word: &str) -> Result<Term, AllocError>
     ensures { IfOk result (λ term. tree_of term ≡ trees.atom word.now) }
 {
     let atom = Atom::new(alloc, word).map_err(|_| AllocError)?;
@@ -69,7 +74,7 @@ pub fn op_of_term(alloc: Global, term: &Term) -> Result<Option<Op>, AllocError>
 }
 
 /// The two atoms that a tuple begins with, and what is behind them.
-fn parts_of(term: &Term) -> Option<(&Atom, &Atom, &[Term])>
+pub fn parts_of(term: &Term) -> Option<(&Atom, &Atom, &[Term])>
     ensures { MatchOption result ((word table : List ℕ) (rest : Trees) → tree_of term.now ≡ op_shape word table rest → ⊥) (λ parts. tree_of term.now ≡ op_shape parts.0.now parts.1.now (forest_of parts.2.now)) }
 {
     let Term::Tuple(parts) = term else {
@@ -81,7 +86,7 @@ fn parts_of(term: &Term) -> Option<(&Atom, &Atom, &[Term])>
 }
 
 /// The atom that terms begin with, and the others.
-fn front_atom(terms: &[Term]) -> Option<(&Atom, &[Term])>
+pub fn front_atom(terms: &[Term]) -> Option<(&Atom, &[Term])>
     ensures { MatchOption result ((text : List ℕ) (others : Trees) → forest_of terms.now ≡ tree (trees.atom text) others → ⊥) (λ parts. forest_of terms.now ≡ tree (trees.atom parts.0.now) (forest_of parts.1.now)) }
 {
     match terms {

@@ -1,7 +1,6 @@
 -- What the calls on a log do to its file.
 use Rattle.file_trait.specs.Touched.{Touches}
-use Rattle.file_trait.proofs.Touched.{concerns_spares, kept, untouched, touched, then_touched, sync_touches}
-use Rattle.file_trait.proofs.Moments.{at_end}
+use Rattle.file_trait.proofs.Touched.{kept, untouched, touched, then_touched, sync_touches}
 use Rattle.disk_logs.specs.declared.error.LogErr.TheVariants.{File, Bad, TooLong}
 use Rattle.std.proofs.Common.{◌≡◌, ◌≢◌, inl, inr, ℕ, ◌≤◌, ◌<◌, Bool, true, false, IsTrue, if◌then◌else◌, List, [], ◌∷◌, ◌++◌, length, take, Option}
 use Rattle.std.proofs.Common.{None, Some, Result, Ok, Err, IsErrOf, refl, sym, ap, ◌∙◌, subst, arith, length-append}
@@ -11,7 +10,7 @@ use Rattle.file_trait.specs.declared.disk.DiskErr.TheVariants.{Failed, Memory}
 use Rattle.file_trait.specs.DiskModel.{Past, did, to_file, to_dir, append, mark, rename, same_name, reads}
 use Rattle.file_trait.specs.Calls.{Has, Done, Appended, Synced, SyncedDir}
 use Rattle.file_trait.proofs.Names.{other_name, same_name_refl}
-use Rattle.file_trait.proofs.Files.{file_changed, reads_other, reads_rename}
+use Rattle.file_trait.proofs.Files.{file_changed, reads_rename}
 use Rattle.disk_logs.specs.declared.error.LogErr.{LogErr}
 use Rattle.disk_logs.specs.Errors.{told}
 use Rattle.log_items.specs.Items.{wire, log_bytes}
@@ -64,20 +63,6 @@ set_touches N name closed r old new in_n = go r
     go (Err (Bad at place)) never = absurd never
     go (Err TooLong) never = absurd never
     go (Err LogErr.Memory) is = untouched N old new is
-
--- ---- other files
-
-pub untouched_reads : (N : List ℕ → Type 0) (old new : Past) (other : List ℕ) → (N other → ⊥) → Touches N old new
-    → reads new other ≡ reads old other
-untouched_reads N old new other not touches =
-    at_end (λ past. reads past other ≡ reads old other) old new
-    (kept N (λ past. reads past other ≡ reads old other) old new
-    (λ op past concerns is. reads_other past op other (concerns_spares N op other not concerns) ∙ is) touches refl)
-
-pub set_others : (name : List ℕ) (closed : Bool) (r : Result Unit LogErr) (old new : Past) (other : List ℕ) → other ≢ name
-    → SetsMark name closed r old new → reads new other ≡ reads old other
-set_others name closed r old new other apart done =
-    untouched_reads (λ n. n ≡ name) old new other apart (set_touches (λ n. n ≡ name) name closed r old new refl done)
 
 -- ---- an append
 

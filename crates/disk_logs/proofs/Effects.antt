@@ -1,10 +1,9 @@
 -- What the calls of a disk do to the files as they read.
-use Rattle.std.proofs.Common.{◌≡◌, ◌≢◌, inl, inr, ℕ, List, take, Result, Ok, Err, OnErr, sym, ap, ◌∙◌, subst}
+use Rattle.std.proofs.Common.{◌≡◌, inl, inr, ℕ, List, Result, Ok, Err, OnErr, sym, ap, ◌∙◌, subst}
 use Rattle.file_trait.specs.declared.disk.DiskErr.{DiskErr}
 use Rattle.file_trait.specs.declared.disk.DiskErr.TheVariants.{Failed, Memory}
-use Rattle.file_trait.specs.DiskModel.{Past, did, DiskOp, FileOp, to_file, append, reads}
+use Rattle.file_trait.specs.DiskModel.{Past, did, DiskOp, to_file, append, reads}
 use Rattle.file_trait.specs.Calls.{Done, Appended, Synced, SyncedDir}
-use Rattle.file_trait.proofs.Files.{reads_other}
 use Rattle.disk_logs.specs.declared.error.LogErr.{LogErr}
 use Rattle.disk_logs.specs.Errors.{told}
 
@@ -12,22 +11,7 @@ pub on_err : {T E : Type 0} {P : Type 0} (r : Result T E) → P → OnErr r P
 on_err (Ok x) p = tt
 on_err (Err e) p = p
 
--- ---- files that a call was not given read as before
-
-pub kept_file : (past : Past) (name : List ℕ) (op : FileOp) (other : List ℕ) → other ≢ name
-    → reads (did (to_file name op) past) other ≡ reads past other
-kept_file past name op other apart = reads_other past (to_file name op) other (λ is. apart (sym is))
-
 -- ---- with each answer
-
-pub appended_kept : (name bytes : List ℕ) (r : Result Unit DiskErr) (old new : Past) (other : List ℕ) → other ≢ name
-    → Appended name bytes r old new
-    → reads new other ≡ reads old other
-appended_kept name bytes (Ok x) old new other apart is = ap (λ p. reads p other) is ∙ kept_file old name (append bytes) other apart
-appended_kept name bytes (Err Failed) old new other apart (inl is) = ap (λ p. reads p other) is
-appended_kept name bytes (Err Failed) old new other apart (inr (k, le, is)) =
-    ap (λ p. reads p other) is ∙ kept_file old name (append (take k bytes)) other apart
-appended_kept name bytes (Err Memory) old new other apart is = ap (λ p. reads p other) is
 
 pub synced_kept : (name : List ℕ) (r : Result Unit DiskErr) (old new : Past) (other : List ℕ) → Synced name r old new
     → reads new other ≡ reads old other

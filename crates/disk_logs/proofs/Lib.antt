@@ -1,6 +1,7 @@
 pub mod Acts
 pub mod Appends
 pub mod CallerLemmas
+pub mod Calls
 pub mod Drafts
 pub mod Effects
 pub mod Frames

@@ -1,5 +1,5 @@
 -- A draft is made, is synced, and gets the name of a log.
-use Rattle.std.proofs.Common.{◌≡◌, ◌≢◌, ◌⊎◌, inl, inr, ℕ, ◌≤◌, Bool, true, false, if◌then◌else◌, List, [], ◌++◌, length, Option, None, Some, option_map, Result, Ok, Err, IsErrOf, refl, sym, ap, ◌∙◌, subst, arith, length-append}
+use Rattle.std.proofs.Common.{◌≡◌, ◌≢◌, inl, inr, ℕ, ◌≤◌, Bool, true, false, if◌then◌else◌, List, [], ◌++◌, length, Option, None, Some, option_map, Result, Ok, Err, IsErrOf, refl, sym, ap, ◌∙◌, subst, arith, length-append}
 use Rattle.file_trait.specs.declared.disk.DiskErr.{DiskErr}
 use Rattle.file_trait.specs.declared.disk.DiskErr.TheVariants.{Failed, Memory}
 use Rattle.file_trait.specs.Calls.{IsSureOf, IsDurable, IsDirDurable, Done, Synced, SyncedDir}
@@ -16,7 +16,7 @@ use Rattle.file_trait.proofs.Frames.{named_other, settled_other, content_spared,
 use Rattle.file_trait.proofs.Images.{file_reads, dir_reads, reads_image, honest_now, honest_same, stood_same, redone_leaves}
 use Rattle.file_trait.proofs.Moments.{none_done, one_done, then_done, weaker, at_end}
 use Rattle.file_trait.proofs.Names.{same_name_refl, same_file_refl, same_file_true}
-use Rattle.file_trait.proofs.Touched.{then_touched, touched, untouched, done_touches, sync_touches, sync_dir_touches}
+use Rattle.file_trait.proofs.Touched.{touched, untouched}
 use Rattle.log_items.proofs.ItemLemmas.{length-item_bytes}
 use Rattle.log_items.proofs.Unique.{same_closed}
 use Rattle.disk_logs.specs.declared.error.LogErr.{LogErr}
@@ -327,15 +327,6 @@ sound_step draft name closed items old new apart fit d sound =
     step_moments (λ past. IsSound past name) draft name old sound (spared_sound old (sync draft) name tt sound) (spared_sound old (sync_failed draft) name apart sound)
     (λ x mid s. let now = moved_sound mid draft name closed items fit (ready x old mid draft (log_bytes closed items) d s) in
     (now, spared_sound (did (to_dir (rename draft name)) mid) sync_dir name tt now)) new
-
--- ---- what is touched
-
-pub step_touches : (draft name : List ℕ) (old new : Past) → Step draft name old new → Touches (λ n. (n ≡ name) ⊎ (n ≡ draft)) old new
-step_touches draft name old new (syncing r s) = sync_touches (λ n. (n ≡ name) ⊎ (n ≡ draft)) draft r old new s (inr refl)
-step_touches draft name old new (renaming x mid r s d) = then_touched (λ n. (n ≡ name) ⊎ (n ≡ draft)) old mid new (sync_touches _ draft (Ok x) old mid s (inr refl)) (done_touches _ _ r mid new d (inr refl, inl refl))
-step_touches draft name old new (settling x mid r s d) =
-    then_touched (λ n. (n ≡ name) ⊎ (n ≡ draft)) old mid new (sync_touches _ draft (Ok x) old mid s (inr refl))
-    (then_touched _ mid (did (to_dir (rename draft name)) mid) new (touched _ _ mid _ refl (inr refl, inl refl)) (sync_dir_touches _ r _ new d))
 
 -- ---- the calls, one after another
 

@@ -91,10 +91,6 @@ module _ (old mid : Past) (name : List ℕ) (drafting : Touches (λ n. n ≡ dra
 
   -- and then the draft is published
   module _ (new : Past) (log : Handle) (is : log ≡ record { name = name; draft = true; closed = true }) where
-    pub renewing_touches : Touches (λ n. (n ≡ log.name) ⊎ (n ≡ draft_name log.name)) mid new → Touches (λ n. (n ≡ name) ⊎ (n ≡ draft_name name)) old new
-    renewing_touches h =
-        then_touched (λ n. (n ≡ name) ⊎ (n ≡ draft_name name)) old mid new drafting_touches (subst (λ (l : Handle). Touches (λ n. (n ≡ l.name) ⊎ (n ≡ draft_name l.name)) mid new) is h)
-
     pub renewing_wanted : Touches (λ n. ⊥) mid new → Touches (λ n. n ≡ draft_name name) old new
     renewing_wanted h = then_touched (λ n. n ≡ draft_name name) old mid new drafting (touches_more (λ n. ⊥) (λ n. n ≡ draft_name name) mid new (λ n never. absurd never) h)
 

@@ -24,6 +24,11 @@ pub fn frame_law()
         → Touches (λ n. (n ≡ one) ⊎ (n ≡ other)) old new → LogStands old name closed items synced → Moments (λ past. LogStands past name closed items synced) old new }
     ensures draft { (other draft whole : List ℕ) (old new : Past) → other ≢ draft → Touches (λ n. n ≡ other) old new → DraftStands old draft whole → Moments (λ past. DraftStands past draft whole) old new }
     ensures sound { (other name : List ℕ) (old new : Past) → other ≢ name → Touches (λ n. n ≡ other) old new → IsSound old name → Moments (λ past. IsSound past name) old new }
+    // And those names read as before.
+    ensures reads { (other name : List ℕ) (old new : Past) → other ≢ name
+        → Touches (λ n. n ≡ other) old new → reads new name ≡ reads old name }
+    ensures reads_two { (one other name : List ℕ) (old new : Past) → one ≢ name → other ≢ name
+        → Touches (λ n. (n ≡ one) ⊎ (n ≡ other)) old new → reads new name ≡ reads old name }
 {}
 
 /// When a closed log may be trusted: of a disk that was just handed over each name is sound, one stays so, and a log that stands is.

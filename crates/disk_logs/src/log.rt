@@ -1,11 +1,12 @@
 //! A log over a disk.
 
-ghost use Rattle.std.specs.Prelude.{◌≡◌, ◌≢◌, ◌⊎◌, ℕ, ◌≤◌, ◌&&◌, Bool, true, false, not, List, [], ◌∷◌, ◌++◌, ◌+◌, ◌<◌, ◌^◌, ◌↔◌, length, take, Some, Ok, IsTrue, IsOk, IfOk, IfErr, OnOk, OnErr, IsErrOf};
+ghost use Rattle.std.specs.Prelude.{◌≡◌, ◌⊎◌, ℕ, ◌≤◌, ◌&&◌, Bool, true, false, not, List, [], ◌∷◌, ◌++◌, ◌+◌, ◌<◌, ◌^◌, ◌↔◌, length, take, Some, Ok, IsTrue, IsOk, IfOk, IfErr, OnOk, OnErr, IsErrOf};
 ghost use Rattle.file_trait.specs.DiskModel.{reads, IsSettled};
 ghost use Rattle.file_trait.specs.Calls.{IsThere, IsAbsent, Has, IsDurable, IsDirDurable};
 ghost use Rattle.file_trait.specs.Moments.{Moments};
 ghost use Rattle.file_trait.specs.Name.{IsName};
 ghost use Rattle.file_trait.specs.Touched.{Touches};
+ghost use Rattle.disk_logs.specs.Calls.{LogCalls};
 ghost use Rattle.disk_logs.specs.Crash.{Stands, DraftStands, IsSound, LogLeaves, IsSafe, OldOrWhole, OldOrPublished, OldOrItems};
 ghost use Rattle.disk_logs.specs.Errors.{OnlyFile, OnlyFileOrMemory, LogCause};
 ghost use Rattle.disk_logs.specs.Logs.{draft_name as name_of_draft, file_of, with_mark, opened, IsLog, AreItems, HasAppended, HasMarked, SetsMark, mark_bytes as bytes_of_mark, IsKept, IsMoved, HasPart};
@@ -53,13 +54,9 @@ impl Log {
         ensures made { IsTrue D.tells → OnOk result (DraftStands (D.past disk.new) (name_of_draft name) (log_bytes true (head_item.now ∷ []))) }
         ensures reads { IsTrue D.tells → OnOk result (reads (D.past disk.new) (name_of_draft name) ≡ Some (log_bytes true (head_item.now ∷ []))) }
         ensures left { IsTrue D.tells → OnErr result (HasPart (log_bytes true (head_item.now ∷ [])) (reads (D.past disk.old) (name_of_draft name)) (reads (D.past disk.new) (name_of_draft name))) }
-        ensures others { IsTrue D.tells → (other : List ℕ) → other ≢ name_of_draft name → reads (D.past disk.new) other ≡ reads (D.past disk.old) other }
-        ensures touches { IsTrue D.tells → Touches (λ n. n ≡ name_of_draft name) (D.past disk.old) (D.past disk.new) }
         ensures long { IsErrOf result LogErr.TooLong ↔ (2 ^ 28 < length head_item.now) }
-        ensures only { length head_item.now ≤ 2 ^ 28 → OnlyFileOrMemory result }
-        ensures time { D.moment disk.old ≤ D.moment disk.new }
-        ensures cause { LogCause (D.faults disk.old) (D.faults disk.new) (D.blamed disk.new) result }
-        ensures named { (other : List ℕ) → IsErrOf result (LogErr.File other) → other ≡ name_of_draft name }
+        ensures calls { LogCalls D.Disk disk.old disk.new (λ n. n ≡ name_of_draft name)
+            (λ r. length head_item.now ≤ 2 ^ 28 → OnlyFileOrMemory r) result }
     {
         let file = draft_name(name);
         let bytes = draft_bytes(alloc, head_item)?;
@@ -83,8 +80,6 @@ impl Log {
         // After an error the draft may have the name already, but not where memory was wanting.
         ensures left { IsTrue D.tells → OnErr result (IsKept (name_of_draft self.old.name) self.old.name (D.past disk.old) (D.past disk.new) ⊎ IsMoved (name_of_draft self.old.name) self.old.name (D.past disk.old) (D.past disk.new)) }
         ensures memory { IsTrue D.tells → IsErrOf result LogErr.Memory → IsKept (name_of_draft self.old.name) self.old.name (D.past disk.old) (D.past disk.new) }
-        ensures others { IsTrue D.tells → (other : List ℕ) → other ≢ self.old.name → other ≢ name_of_draft self.old.name → reads (D.past disk.new) other ≡ reads (D.past disk.old) other }
-        ensures touches { IsTrue D.tells → Touches (λ n. (n ≡ self.old.name) ⊎ (n ≡ name_of_draft self.old.name)) (D.past disk.old) (D.past disk.new) }
 
         // Where memory was wanting nothing was done but that the draft was made durable.
         ensures wanted { IsTrue D.tells → IsErrOf result LogErr.Memory → Touches (λ n. ⊥) (D.past disk.old) (D.past disk.new) }
@@ -103,11 +98,9 @@ impl Log {
         ensures images { (whole : List ℕ) → IsTrue D.tells → DraftStands (D.past disk.old) (name_of_draft self.old.name) whole
             → Moments (OldOrPublished (D.past disk.old) (name_of_draft self.old.name) self.old.name whole) (D.past disk.old) (D.past disk.new) }
         ensures directory { IsTrue D.tells → OnOk result (IsDirDurable (D.past disk.new)) }
-        ensures only { OnlyFileOrMemory result }
-        ensures time { D.moment disk.old ≤ D.moment disk.new }
+        ensures calls { LogCalls D.Disk disk.old disk.new
+            (λ n. (n ≡ self.old.name) ⊎ (n ≡ name_of_draft self.old.name)) OnlyFileOrMemory result }
         ensures few { D.moment disk.new ≤ D.moment disk.old + 3 }
-        ensures cause { LogCause (D.faults disk.old) (D.faults disk.new) (D.blamed disk.new) result }
-        ensures named { (other : List ℕ) → IsErrOf result (LogErr.File other) → (other ≡ self.old.name) ⊎ (other ≡ name_of_draft self.old.name) }
     {
         let draft = self.file;
         told(draft, disk.sync(draft))?;
@@ -127,8 +120,6 @@ impl Log {
         ensures err { OnErr result ((self.new ≡ self.old) ⊎ (self.new ≡ opened self.old)) }
         ensures appended { (all more : List (List ℕ)) → IsTrue D.tells → items.now ≡ wire more → reads (D.past disk.old) (file_of self.old) ≡ Some (log_bytes self.old.closed all)
             → HasAppended result self.new.closed (opened self.old).closed all more (reads (D.past disk.new) (file_of self.old)) }
-        ensures others { IsTrue D.tells → (other : List ℕ) → other ≢ file_of self.old → reads (D.past disk.new) other ≡ reads (D.past disk.old) other }
-        ensures touches { IsTrue D.tells → Touches (λ n. n ≡ file_of self.old) (D.past disk.old) (D.past disk.new) }
 
         // At Ok the items stand behind the old ones, and as many as before are synced. Where memory was wanting all is as before.
         ensures stands { (all more : List (List ℕ)) (synced : ℕ) → IsTrue D.tells → AreContents more → items.now ≡ wire more
@@ -148,13 +139,10 @@ impl Log {
         ensures drafted { (all more : List (List ℕ)) → IsTrue D.tells → IsTrue self.old.draft → items.now ≡ wire more
             → DraftStands (D.past disk.old) (name_of_draft self.old.name) (log_bytes self.old.closed all)
             → OnOk result (DraftStands (D.past disk.new) (name_of_draft self.old.name) (log_bytes self.old.closed (all ++ more))) }
-        ensures only { OnlyFileOrMemory result }
-        ensures time { D.moment disk.old ≤ D.moment disk.new }
+        ensures calls { LogCalls D.Disk disk.old disk.new (λ n. n ≡ file_of self.old) OnlyFileOrMemory result }
         // It is one write, and with the mark and its sync three calls.
         ensures few { D.moment disk.new ≤ D.moment disk.old + 3 }
         ensures one { self.old.closed ≡ false → D.moment disk.new ≤ D.moment disk.old + 1 }
-        ensures cause { LogCause (D.faults disk.old) (D.faults disk.new) (D.blamed disk.new) result }
-        ensures named { (name : List ℕ) → IsErrOf result (LogErr.File name) → name ≡ file_of self.old }
     {
         self.open(disk)?;
         told(self.file, disk.append(self.file, items))
@@ -165,7 +153,6 @@ impl Log {
         requires { IsTrue D.tells → IsThere (D.past disk.old) (file_of self.old) }
         ensures log { self.new ≡ self.old }
         ensures same { IsTrue D.tells → (other : List ℕ) → reads (D.past disk.new) other ≡ reads (D.past disk.old) other }
-        ensures touches { IsTrue D.tells → Touches (λ n. n ≡ file_of self.old) (D.past disk.old) (D.past disk.new) }
         ensures stands { (items : List (List ℕ)) (synced : ℕ) → IsTrue D.tells → Stands (D.past disk.old) self.old items synced
             → OnOk result (Stands (D.past disk.new) self.new items (length items)) }
         ensures durable { (items : List (List ℕ)) (synced : ℕ) → IsTrue D.tells → Stands (D.past disk.old) self.old items synced → self.old.closed ≡ false
@@ -174,11 +161,8 @@ impl Log {
             → Moments (LogLeaves self.old.name items synced) (D.past disk.old) (D.past disk.new) }
         ensures sound { (items : List (List ℕ)) (synced : ℕ) → IsTrue D.tells → Stands (D.past disk.old) self.old items synced
             → Moments (λ past. IsSound past self.old.name) (D.past disk.old) (D.past disk.new) }
-        ensures only { OnlyFile result }
-        ensures time { D.moment disk.old ≤ D.moment disk.new }
+        ensures calls { LogCalls D.Disk disk.old disk.new (λ n. n ≡ file_of self.old) OnlyFile result }
         ensures few { D.moment disk.new ≤ D.moment disk.old + 1 }
-        ensures cause { LogCause (D.faults disk.old) (D.faults disk.new) (D.blamed disk.new) result }
-        ensures named { (name : List ℕ) → IsErrOf result (LogErr.File name) → name ≡ file_of self.old }
     {
         if self.is_closed() {
             return Ok(());
@@ -196,8 +180,6 @@ impl Log {
         ensures wanted { IsErrOf result LogErr.Memory → self.new ≡ self.old }
         ensures closed { (all : List (List ℕ)) → IsTrue D.tells → reads (D.past disk.old) (file_of self.old) ≡ Some (log_bytes self.old.closed all)
             → HasMarked result self.old.closed true all (reads (D.past disk.new) (file_of self.old)) }
-        ensures others { IsTrue D.tells → (other : List ℕ) → other ≢ file_of self.old → reads (D.past disk.new) other ≡ reads (D.past disk.old) other }
-        ensures touches { IsTrue D.tells → Touches (λ n. n ≡ file_of self.old) (D.past disk.old) (D.past disk.new) }
         ensures stands { (items : List (List ℕ)) (synced : ℕ) → IsTrue D.tells → Stands (D.past disk.old) self.old items synced
             → OnOk result (Stands (D.past disk.new) self.new items (length items)) }
 
@@ -210,11 +192,8 @@ impl Log {
             → Moments (LogLeaves self.old.name items synced) (D.past disk.old) (D.past disk.new) }
         ensures sound { (items : List (List ℕ)) (synced : ℕ) → IsTrue D.tells → Stands (D.past disk.old) self.old items synced
             → Moments (λ past. IsSound past self.old.name) (D.past disk.old) (D.past disk.new) }
-        ensures only { OnlyFileOrMemory result }
-        ensures time { D.moment disk.old ≤ D.moment disk.new }
+        ensures calls { LogCalls D.Disk disk.old disk.new (λ n. n ≡ file_of self.old) OnlyFileOrMemory result }
         ensures few { D.moment disk.new ≤ D.moment disk.old + 3 }
-        ensures cause { LogCause (D.faults disk.old) (D.faults disk.new) (D.blamed disk.new) result }
-        ensures named { (name : List ℕ) → IsErrOf result (LogErr.File name) → name ≡ file_of self.old }
     {
         if self.closed {
             return Ok(());
@@ -236,8 +215,6 @@ impl Log {
         ensures items { IsTrue D.tells → OnOk result (reads (D.past disk.new) name ≡ Some (log_bytes true read.now.items)) }
         ensures kept { IsTrue D.tells → OnErr result (Has (D.past disk.new) name (λ left. HasItems left read.now.items)) }
         ensures trusted { read.now.was_open ≡ false → IsOk result × (disk.new ≡ disk.old) }
-        ensures others { IsTrue D.tells → (other : List ℕ) → other ≢ name → other ≢ name_of_draft name → reads (D.past disk.new) other ≡ reads (D.past disk.old) other }
-        ensures touches { IsTrue D.tells → Touches (λ n. (n ≡ name) ⊎ (n ≡ name_of_draft name)) (D.past disk.old) (D.past disk.new) }
         ensures wanted { IsTrue D.tells → IsErrOf result LogErr.Memory → Touches (λ n. n ≡ name_of_draft name) (D.past disk.old) (D.past disk.new) }
 
         // At Ok all items are synced. At each moment a crash leaves under the name what it could leave before, or exactly these items.
@@ -245,10 +222,8 @@ impl Log {
             → IfOk result (λ log. Stands (D.past disk.new) log read.now.items (length read.now.items)) }
         ensures any_moment { IsTrue D.tells → IsSettled (D.past disk.old) name → Moments (OldOrItems (D.past disk.old) name read.now.items) (D.past disk.old) (D.past disk.new) }
         ensures sound { IsTrue D.tells → IsSound (D.past disk.old) name → Moments (λ past. IsSound past name) (D.past disk.old) (D.past disk.new) }
-        ensures only { OnlyFileOrMemory result }
-        ensures time { D.moment disk.old ≤ D.moment disk.new }
-        ensures cause { LogCause (D.faults disk.old) (D.faults disk.new) (D.blamed disk.new) result }
-        ensures named { (other : List ℕ) → IsErrOf result (LogErr.File other) → (other ≡ name) ⊎ (other ≡ name_of_draft name) }
+        ensures calls { LogCalls D.Disk disk.old disk.new (λ n. (n ≡ name) ⊎ (n ≡ name_of_draft name))
+            OnlyFileOrMemory result }
     {
         if !read.was_open() {
             return Ok(Log {
@@ -278,7 +253,6 @@ impl Log {
         ensures wanted { IsErrOf result LogErr.Memory → self.new ≡ self.old }
         ensures marked { (all : List (List ℕ)) → IsTrue D.tells → reads (D.past disk.old) (file_of self.old) ≡ Some (log_bytes self.old.closed all)
             → HasMarked result self.old.closed (opened self.old).closed all (reads (D.past disk.new) (file_of self.old)) }
-        ensures others { IsTrue D.tells → (other : List ℕ) → other ≢ file_of self.old → reads (D.past disk.new) other ≡ reads (D.past disk.old) other }
         ensures touches { IsTrue D.tells → Touches (λ n. n ≡ file_of self.old) (D.past disk.old) (D.past disk.new) }
         ensures same { IsTrue D.tells → IsTrue self.old.draft ⊎ (self.old.closed ≡ false) → D.past disk.new ≡ D.past disk.old }
         ensures stands { (items : List (List ℕ)) (synced : ℕ) → IsTrue D.tells → Stands (D.past disk.old) self.old items synced
@@ -416,7 +390,6 @@ fn draft_bytes(alloc: Global, head_item: &[u8]) -> Result<Vec<u8>, LogErr>
 fn clear<D: Disk>(disk: &mut D, name: FileName) -> Result<(), LogErr>
     ensures gone { IsTrue D.tells → OnOk result (IsAbsent (D.past disk.new) name) }
     ensures left { IsTrue D.tells → OnErr result ((reads (D.past disk.new) name ≡ reads (D.past disk.old) name) ⊎ IsAbsent (D.past disk.new) name) }
-    ensures others { IsTrue D.tells → (other : List ℕ) → other ≢ name → reads (D.past disk.new) other ≡ reads (D.past disk.old) other }
     ensures touches { IsTrue D.tells → Touches (λ n. n ≡ name) (D.past disk.old) (D.past disk.new) }
     ensures only { OnlyFileOrMemory result }
     ensures time { D.moment disk.old ≤ D.moment disk.new }

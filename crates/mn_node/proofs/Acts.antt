@@ -27,7 +27,7 @@ use Rattle.txn_log.specs.Logs.{LogState, handle, Reads, TxnStands, HasFirst, Lea
 use Rattle.mn_node.specs.Calls.{Calls}
 use Rattle.mn_node.specs.Durable.{commit, made, rows_of}
 use Rattle.mn_node.specs.Inside.Tries.{Tries, StaysLog, appended}
-use Rattle.mn_node.specs.Machine.{Answer, Effect, effect, adds, has_records, finds, goes_to_disk}
+use Rattle.mn_node.specs.Machine.{Answer, Effect, effect, adds, has_records, finds, refuses, goes_to_disk}
 use Rattle.mn_node.specs.Machine as machine
 use Rattle.mn_node.specs.Meaning.{latest}
 use Rattle.mn_node.specs.Puts.{IsRow, put_of, IsPut, ArePuts}
@@ -126,6 +126,23 @@ module _ {live : Open} {past : Past} {commits : List CommitRecord} {synced : ℕ
   some_found key some = has_some (records_of key (rows_of (made commits))) (λ none. some (shown.table key ∙ none))
 
   -- records were read
+  -- only a reply
+  pub only_told : (e : Effect) (given : Answer) (reply : Reply) (done : Done) → e ≡ refuses given → answer reply ≡ given
+      → done ≡ record { reply = reply; wrote = false; settles = false; halts = false }
+      → Tries e commits synced (Ok done) live past past
+  only_told e given reply done is same told =
+      subst (λ x. Tries x commits synced (Ok done) live past past) (sym is)
+      (subst (λ d. Tries (refuses given) commits synced (Ok d) live past past) (sym told) (record {
+        out = (
+          record { answer = same; wrote = refl; settles = refl; halts = refl },
+          none_more (λ all. OpenShows live past all synced) commits shown,
+          λ halts. absurd (cc halts),
+        );
+        during = leaves_yet;
+        sound = sound_yet;
+        touches = none_touched;
+      }))
+
   pub found : (key : Tree) (records : Items Term) (done : Done)
       → done ≡ record { reply = replies.Found records; wrote = false; settles = false; halts = false }
       → map tree_of records ≡ records_of key (map tree_of live.table.rows.items)
@@ -295,6 +312,12 @@ module _ {live : Open} {before : Past} {commits : List CommitRecord} {synced : �
       (λ wanted. let (may, stands) = kept wanted in (may, shows_same same stands, during))
 
 -- ---- one command
+
+-- what has another effect's name
+pub tries_as : {commits : List CommitRecord} {synced : ℕ} {result : Result Done Trouble} {live : Open} {before now : Past}
+    (e other : Effect) → e ≡ other → Tries other commits synced result live before now → Tries e commits synced result live before now
+tries_as {commits} {synced} {result} {live} {before} {now} e other is tries =
+    subst (λ x. Tries x commits synced result live before now) (sym is) tries
 
 -- the command is this one
 pub tries_asked : {commits : List CommitRecord} {synced : ℕ} {result : Result Done Trouble} {live : Open} {before now : Past}

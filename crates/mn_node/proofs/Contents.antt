@@ -10,7 +10,7 @@ use Rattle.term_core.specs.Order.{same_tree, same_tree_true, same_tree_refl}
 use Rattle.term_core.specs.declared.term.Term.{Term}
 use Rattle.db_model.specs.Commits.{CommitRecord}
 use Rattle.db_model.specs.Database.{Contents, is_key, has_key, has_key_of, records_of, without_key}
-use Rattle.db_model.specs.Database.{comes_before, with_record, put_record, without_cookie}
+use Rattle.db_model.specs.Database.{comes_before, with_record, put_record}
 use Rattle.db_model.specs.declared.definition.Kind.TheVariants.{Set}
 use Rattle.mn_node.specs.Durable.{Entry, commit, Durable, after, after_one, beginning, table_definition, made, rows_of}
 use Rattle.mn_node.specs.Puts.{put_of, IsPut, ArePuts, IsRow}
@@ -165,7 +165,7 @@ terms_put key row old mid new kept is =
 -- a database that has the one table, with these records
 abbrev pub with_rows : Contents → Durable
 with_rows contents =
-    record { database = record { version = 0; tables = record { definition = without_cookie table_definition; contents = contents } ∷ [] } }
+    record { database = record { version = 0; tables = record { definition = table_definition; contents = contents } ∷ [] } }
 
 pub after_append : (w : Durable) (entries more : List Entry) → after w (entries ++ more) ≡ after (after w entries) more
 after_append w [] more = refl

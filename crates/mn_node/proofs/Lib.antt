@@ -7,5 +7,7 @@ pub mod NodeFacts
 pub mod NodeOwes
 pub mod NodeStarts
 pub mod NodeSteps
+pub mod Owed
 pub mod Prefixes
 pub mod Records
+pub mod Refusals

@@ -1,7 +1,6 @@
 -- What a node does is a step of the machine, whatever the command.
 use Rattle.std.proofs.Common.{◌≡◌, ◌⊎◌, ℕ, ◌+◌, ◌≤◌, Bool, true, false, if◌then◌else◌, List, [], ◌∷◌, ◌++◌, length, Option, None, Some, is_some, Result, Ok, Err, refl, sym, ap, ◌∙◌, subst, inl, inr, arith, length-append, append-nil}
-use Rattle.std.proofs.lemmas.List.Elements.{All-nil, All-cons, All-append}
-use Rattle.term_core.specs.View.{tree_of}
+use Rattle.std.proofs.lemmas.List.Elements.{All-append}
 use Rattle.file_trait.specs.DiskModel.{Past, reads, Crashes}
 use Rattle.file_trait.specs.Moments.{Moments}
 use Rattle.file_trait.proofs.Moments.{none_done, weaker, at_end}
@@ -10,15 +9,14 @@ use Rattle.disk_logs.specs.Crash.{IsSound}
 use Rattle.db_model.specs.Commits.{CommitRecord}
 use Rattle.txn_log.specs.Logs as logs
 use Rattle.txn_log.specs.Logs.{Reads, IsLogName}
-use Rattle.mn_node.specs.Durable.{Entry, Durable, after, made}
+use Rattle.db_model.specs.Definitions.{Definition}
+use Rattle.mn_node.specs.Durable.{Entry, commit, Durable, definition_in, after, made}
 use Rattle.mn_node.specs.Inside.Tries.{appended, IsDone, Tries, IsPlain, counted, settled_node, failed_node, failed_answer}
-use Rattle.mn_node.specs.Machine.{Command, put, get, sync_log, stop, Effect, Event, command, Answer, started, is_no_memory, no_memory, fault, is_down, effect, Life, running, halted, runs, IsAlive, Machine, durable_of, now_of, entries_of, with_effect, in_doubt, as_asked, out_of_memory, failed, LeavesAs, Leaves, HoldsClosed, entries_if, added}
+use Rattle.mn_node.specs.Machine.{Command, put, get, sync_log, stop, Effect, Event, command, Answer, started, is_no_memory, no_memory, fault, is_down, adds, refuses, bad_record, put_effect, get_effect, effect, Life, running, halted, runs, IsAlive, Machine, durable_of, now_of, entries_of, with_effect, in_doubt, as_asked, out_of_memory, failed, LeavesAs, Leaves, HoldsClosed, entries_if, added}
 use Rattle.mn_node.specs.Meaning.{Files, latest, Meaning, stands, IsPrefixOf}
-use Rattle.mn_node.specs.Puts.{IsPut, ArePuts, put_of}
-use Rattle.mn_node.specs.Seen.{answer, asked, AsksRow}
+use Rattle.mn_node.specs.Puts.{IsPut, ArePuts, fits, write_of}
+use Rattle.mn_node.specs.Seen.{answer}
 use Rattle.mn_node.specs.Shown.{commits_of, OpenShows, IsUp, ShowsLife, HasKept, HasLog, CountsBase, Shows, Steps, IsUpState, IsWhole}
-use Rattle.mn_node.specs.declared.command.Command as code
-use Rattle.mn_node.specs.declared.command.Command.TheVariants.{Put}
 use Rattle.mn_node.specs.declared.node.Node.{Node}
 use Rattle.mn_node.specs.declared.node.State.{State}
 use Rattle.mn_node.specs.declared.node.State.TheVariants.{Unstarted, Up, Stopped, Faulted, Starved, Ruined}
@@ -27,18 +25,27 @@ use Rattle.mn_node.specs.declared.open.Open.{Open}
 use Rattle.mn_node.specs.declared.open.Trouble.{Trouble}
 use Rattle.mn_node.specs.declared.open.Trouble.TheVariants.{File, Memory}
 use Rattle.mn_node.proofs.Prefixes.{made_behind, behind_more, behind_count, crash_behind, standing_reads, standing_within, standing_sound, standing_closed, standing_leaves}
+use Rattle.mn_node.proofs.Refusals.{asked_puts}
 
--- ---- what a command appends
-
--- a command that appends has a row here
-pub asked_puts : (w : Durable) (c : code.Command) → AsksRow c → ArePuts (appended (effect w (asked c)))
-asked_puts w (Put item) row = All-cons IsPut (put_of (tree_of item)) [] (tree_of item, row, refl) (All-nil IsPut)
-asked_puts w other row = All-nil IsPut
+-- ---- what a command answers
 
 -- no command is answered as a start
 starts_none : (w : Durable) (c : Command) (n : ℕ) → (effect w c).answer ≡ started n → ⊥
-starts_none w (put item) n is = absurd (cc is)
-starts_none w (get key) n is = absurd (cc is)
+starts_none w (put table item) n is = by (definition_in table w.database.tables) is
+  where
+    fitting : (b : Bool) → (if b then adds (commit (write_of w.database.version table item)) else refuses (bad_record item)).answer
+        ≡ started n → ⊥
+    fitting true is = absurd (cc is)
+    fitting false is = absurd (cc is)
+
+    by : (d : Option Definition) → (put_effect d w table item).answer ≡ started n → ⊥
+    by None is = absurd (cc is)
+    by (Some definition) is = fitting (fits definition item) is
+starts_none w (get table key) n is = by (definition_in table w.database.tables) is
+  where
+    by : (d : Option Definition) → (get_effect d w table key).answer ≡ started n → ⊥
+    by None is = absurd (cc is)
+    by (Some definition) is = absurd (cc is)
 starts_none w sync_log n is = absurd (cc is)
 starts_none w stop n is = absurd (cc is)
 
@@ -119,6 +126,10 @@ module _ (first before now : Past) (node : Node) (live : Open) (machine : Machin
       → Tries (effect (made log_commits) c) log_commits log_synced result new_live before now
       → Tries e log_commits log_synced result new_live before now
   tried_at result new_live t = subst (λ (w : Durable). Tries (effect w c) log_commits log_synced result new_live before now) now_is t
+
+  -- what is appended is the put of a record
+  pub puts_asked : ArePuts (appended e)
+  puts_asked = subst (λ (w : Durable). ArePuts (appended (effect w c))) now_is (asked_puts log_commits c up_shows.puts)
 
   abbrev all : List Entry
   all = machine.entries ++ entries_of e.entry

@@ -1,8 +1,8 @@
 -- The durable state, and what entries make of it.
-use Rattle.std.specs.Prelude.{ℕ, List, [], ◌∷◌, map, codes}
+use Rattle.std.specs.Prelude.{ℕ, List, [], ◌∷◌, map, codes, if◌then◌else◌, Option, None, Some}
 use Rattle.term_core.specs.Tree.{atom}
 use Rattle.db_model.specs.Commits.{CommitRecord}
-use Rattle.db_model.specs.Database.{Contents, Database, contents_in, empty_table, do_commit}
+use Rattle.db_model.specs.Database.{Contents, Table, Database, contents_in, empty_table, is_called, do_commit}
 use Rattle.db_model.specs.Definitions.{Definition}
 use Rattle.db_model.specs.declared.definition.Kind.TheVariants.{Set}
 
@@ -24,6 +24,12 @@ after w (entry ∷ entries) = after (after_one w entry) entries
 -- what a start makes of it: the same
 abbrev pub boot : Durable → Durable
 boot w = w
+
+-- the definition of the first table of this name, where there is one
+abbrev pub definition_in : List ℕ → List Table → Option Definition
+definition_in name [] = None
+definition_in name (table ∷ tables) =
+    if is_called name table then Some table.definition else definition_in name tables
 
 -- ---- the one table
 

@@ -2,18 +2,19 @@
 use Rattle.std.specs.Prelude.{◌≡◌, ◌⊎◌, ℕ, ◌≤◌, Bool, true, false, ◌||◌, IsTrue, if◌then◌else◌, List, [], ◌∷◌, ◌++◌, length, Option, Some, None, is_some}
 use Rattle.term_core.specs.Tree.{Tree}
 use Rattle.file_trait.specs.DiskModel.{Past}
-use Rattle.db_model.specs.Database.{records_of}
+use Rattle.db_model.specs.Database.{records_of, contents_in}
+use Rattle.db_model.specs.Definitions.{Definition}
 use Rattle.txn_log.specs.Logs.{IsLogName}
-use Rattle.mn_node.specs.Durable.{Entry, commit, Durable, beginning, after, boot, rows_of}
+use Rattle.mn_node.specs.Durable.{Entry, commit, Durable, beginning, definition_in, after, boot}
 use Rattle.mn_node.specs.Meaning.{Files, latest, Meaning, stands, broken, Stands, StandsClosed, IsBroken, IsPrefixOf, IsOldOr}
-use Rattle.mn_node.specs.Puts.{put_of}
+use Rattle.mn_node.specs.Puts.{fits, write_of}
 
 -- ---- what is asked and answered
 
 -- what a node that is up is asked
 pub data Command : Type 0 where
-  put : (item : Tree) → Command
-  get : (key : Tree) → Command
+  put : (table : List ℕ) (item : Tree) → Command
+  get : (table : List ℕ) (key : Tree) → Command
   sync_log : Command
   stop : Command
 
@@ -34,6 +35,9 @@ pub data Answer : Type 0 where
   found : (records : List Tree) → Answer
   synced : Answer
   stopped : Answer
+  -- refused, and nothing is done: there is no table of this name, or it can have no such record
+  no_table : (name : List ℕ) → Answer
+  bad_record : (item : Tree) → Answer
   bad_line : (at : ℕ) → Answer
   -- a turn is not answered
   silent : Answer
@@ -80,10 +84,24 @@ abbrev pub finds : List Tree → Effect
 finds records =
     record { answer = found records; entry = None; settles = false; halts = false; takes_memory = has_records records }
 
+-- only an answer
+abbrev pub refuses : Answer → Effect
+refuses answer = record { answer = answer; entry = None; settles = false; halts = false; takes_memory = false }
+
+-- by the definition of the table, where there is one
+abbrev pub put_effect : Option Definition → Durable → List ℕ → Tree → Effect
+put_effect None w table item = refuses (no_table table)
+put_effect (Some definition) w table item =
+    if fits definition item then adds (commit (write_of w.database.version table item)) else refuses (bad_record item)
+
+abbrev pub get_effect : Option Definition → Durable → List ℕ → Tree → Effect
+get_effect None w table key = refuses (no_table table)
+get_effect (Some definition) w table key = finds (records_of key (contents_in table w.database.tables))
+
 -- the effect of each command, where the durable state is this
 abbrev pub effect : Durable → Command → Effect
-effect w (put item) = adds (commit (put_of item))
-effect w (get key) = finds (records_of key (rows_of w))
+effect w (put table item) = put_effect (definition_in table w.database.tables) w table item
+effect w (get table key) = get_effect (definition_in table w.database.tables) w table key
 effect w sync_log = record { answer = synced; entry = None; settles = true; halts = false; takes_memory = false }
 effect w stop = record { answer = stopped; entry = None; settles = true; halts = true; takes_memory = true }
 

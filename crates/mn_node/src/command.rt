@@ -1,13 +1,13 @@
 //! What a node that is up is asked.
 
-use term_core::Term;
+use term_core::{Atom, Term};
 
 #[derive(Drop)]
 pub enum Command {
-    /// Write this record, in the place of the one with its key.
-    Put(Term),
-    /// Read the records with this key.
-    Get(Term),
+    /// Write this record into the table of this name, in the place of the one with its key.
+    Put(Atom, Term),
+    /// Read the records of the table of this name with this key.
+    Get(Atom, Term),
     /// Make all commits durable.
     SyncLog,
     /// Close the log.

@@ -8,7 +8,6 @@ ghost use Rattle.mn_node.specs.Inside.Tries.{settled_node, failed_node, failed_a
 ghost use Rattle.mn_node.specs.Machine.{Machine};
 ghost use Rattle.mn_node.specs.Machine as machine;
 ghost use Rattle.mn_node.specs.Seen as seen;
-ghost use Rattle.mn_node.specs.Seen.{AsksRow};
 ghost use Rattle.mn_node.specs.Shown.{Shows, Steps, HasLogOf, IsUpState, IsWhole, IsFew};
 
 use crate::command::Command;
@@ -120,7 +119,6 @@ impl Node {
     pub fn answer<D: Disk>(&mut self, alloc: Global, disk: &mut D, command: Command) -> Reply
         requires whole { IsWhole self.old.state }
         requires log { IsTrue D.tells → HasLogOf self.old.state (D.past disk.old) }
-        requires row { AsksRow command }
         requires few { (n : ℕ) × (n < 2 ^ 62) × IsFew self.old n }
         ensures steps { IsTrue D.tells → (first : Past) (old : Machine) → Shows first self.old (D.past disk.old) old
             → Steps first old (machine.command (seen.asked command)) (seen.answer result) self.old self.new

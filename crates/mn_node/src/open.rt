@@ -2,29 +2,27 @@
 
 ghost use Rattle.std.specs.Prelude.{◌≡◌, ◌<◌, ◌≤◌, ◌+◌, ◌-◌, ◌^◌, [], ℕ, List, false, IsTrue, IfOk, IsErrOf};
 ghost use Rattle.file_trait.specs.DiskModel.{Past};
-ghost use Rattle.file_trait.specs.Touched.{Touches};
 ghost use Rattle.term_core.specs.View.{tree_of};
 ghost use Rattle.disk_logs.specs.Logs.{IsLog};
 ghost use Rattle.db_model.specs.Commits.{CommitRecord};
 ghost use Rattle.txn_log.specs.Logs.{handle, IsLogName};
-ghost use Rattle.mn_node.specs.Calls.{Calls};
-ghost use Rattle.mn_node.specs.Durable.{made};
-ghost use Rattle.mn_node.specs.Inside.Tries.{IsFileOrMemory, Tries, StaysLog, IsPlain};
-ghost use Rattle.mn_node.specs.Machine.{effect};
+ghost use Rattle.db_model.specs.Database.{records_of};
+ghost use Rattle.mn_node.specs.Durable.{commit, made, rows_of};
+ghost use Rattle.mn_node.specs.Inside.Tries.{IsFileOrMemory, Tries, Attempts, IsPlain};
+ghost use Rattle.mn_node.specs.Machine.{effect, adds, finds};
 ghost use Rattle.mn_node.specs.Machine as machine;
-ghost use Rattle.mn_node.specs.Puts.{IsRow};
+ghost use Rattle.mn_node.specs.Puts.{IsRow, put_of};
 ghost use Rattle.mn_node.specs.Seen as seen;
-ghost use Rattle.mn_node.specs.Seen.{AsksRow};
 ghost use Rattle.mn_node.specs.Shown.{OpenShows};
 
 use crate::command::Command;
-use crate::puts::put_item;
+use crate::puts::{is_row, is_table, put_item};
 use crate::reply::Reply;
 use crate::table::Table;
 use disk_logs::LogErr;
 use file_trait::{Disk, FileName};
 use std::alloc::{AllocError, Global};
-use term_core::Term;
+use term_core::{Atom, Term};
 use txn_log::TxnLog;
 
 /// What a command did.
@@ -102,25 +100,44 @@ impl Open {
     ) -> Result<Done, Trouble>
         requires log { IsTrue D.tells → IsLog (D.past disk.old) (handle self.old.log) }
         requires few { self.old.log.commits < 2 ^ 64 - 1 }
-        requires row { AsksRow command }
         ensures tries { IsTrue D.tells → (commits : List CommitRecord) (synced : ℕ)
             → OpenShows self.old (D.past disk.old) commits synced
             → Tries (effect (made commits) (seen.asked command)) commits synced result self.new
             (D.past disk.old) (D.past disk.new) }
-        ensures calls { Calls (D.faults disk.old) (D.faults disk.new) (D.blamed disk.new)
-            (λ name. (doubt : _) × IsErrOf result (Trouble.File name doubt)) }
-        ensures touches { IsTrue D.tells → Touches IsLogName (D.past disk.old) (D.past disk.new) }
-        ensures log { IsTrue D.tells → StaysLog result (D.past disk.new) self.new }
-        ensures few { self.new.log.commits ≤ self.old.log.commits + 1 }
-        ensures plain { IfOk result (λ done. IsPlain (seen.answer done.reply)) }
+        ensures owes { Attempts D.Disk disk.old disk.new self.old self.new result }
         ensures sync { seen.asked command ≡ machine.sync_log → IsErrOf result Trouble.Memory → ⊥ }
     {
         match command {
-            Command::Put(row) => self.put(alloc, disk, row),
-            Command::Get(key) => self.get(alloc, &key),
+            Command::Put(table, row) => self.write(alloc, disk, table, row),
+            Command::Get(table, key) => self.read(alloc, table, &key),
             Command::SyncLog => self.settle(disk),
             Command::Stop => self.close(disk),
         }
+    }
+
+    /// Puts a record into a table that is there and can have it.
+    fn write<D: Disk>(
+        &mut self,
+        alloc: Global,
+        disk: &mut D,
+        table: Atom,
+        row: Term,
+    ) -> Result<Done, Trouble>
+        requires log { IsTrue D.tells → IsLog (D.past disk.old) (handle self.old.log) }
+        requires few { self.old.log.commits < 2 ^ 64 - 1 }
+        ensures tries { IsTrue D.tells → (commits : List CommitRecord) (synced : ℕ)
+            → OpenShows self.old (D.past disk.old) commits synced
+            → Tries (effect (made commits) (machine.put table (tree_of row))) commits synced result self.new
+            (D.past disk.old) (D.past disk.new) }
+        ensures owes { Attempts D.Disk disk.old disk.new self.old self.new result }
+    {
+        if !is_table(&table) {
+            return Ok(told(Reply::NoTable(table)));
+        }
+        if !is_row(&row) {
+            return Ok(told(Reply::BadRecord(row)));
+        }
+        self.put(alloc, disk, row)
     }
 
     /// Takes the memory of the record's place in the table, then appends its commit, and then puts it there, which
@@ -131,14 +148,9 @@ impl Open {
         requires row { IsRow (tree_of row) }
         ensures tries { IsTrue D.tells → (commits : List CommitRecord) (synced : ℕ)
             → OpenShows self.old (D.past disk.old) commits synced
-            → Tries (effect (made commits) (machine.put (tree_of row))) commits synced result self.new
+            → Tries (adds (commit (put_of (tree_of row)))) commits synced result self.new
             (D.past disk.old) (D.past disk.new) }
-        ensures calls { Calls (D.faults disk.old) (D.faults disk.new) (D.blamed disk.new)
-            (λ name. (doubt : _) × IsErrOf result (Trouble.File name doubt)) }
-        ensures touches { IsTrue D.tells → Touches IsLogName (D.past disk.old) (D.past disk.new) }
-        ensures log { IsTrue D.tells → StaysLog result (D.past disk.new) self.new }
-        ensures few { self.new.log.commits ≤ self.old.log.commits + 1 }
-        ensures plain { IfOk result (λ done. IsPlain (seen.answer done.reply)) }
+        ensures owes { Attempts D.Disk disk.old disk.new self.old self.new result }
 
         // It is one call of the disk at most, and three where the log is closed: the first put marks it open.
         ensures calls_few { D.moment disk.new ≤ D.moment disk.old + 3 }
@@ -160,13 +172,28 @@ impl Open {
         }
     }
 
+    /// Copies of the records with this key, of a table that is there.
+    fn read(&self, alloc: Global, table: Atom, key: &Term) -> Result<Done, Trouble>
+        ensures tries { (past : Past) (commits : List CommitRecord) (synced : ℕ)
+            → OpenShows self.now past commits synced
+            → Tries (effect (made commits) (machine.get table (tree_of key.now))) commits synced result self.now past
+            past }
+        ensures none { (name : List ℕ) (doubt : _) → IsErrOf result (Trouble.File name doubt) → ⊥ }
+        ensures plain { IfOk result (λ done. IsPlain (seen.answer done.reply)) }
+    {
+        if !is_table(&table) {
+            return Ok(told(Reply::NoTable(table)));
+        }
+        self.get(alloc, key)
+    }
+
     /// Copies of the records with this key.
     fn get(&self, alloc: Global, key: &Term) -> Result<Done, Trouble>
         ensures tries { (past : Past) (commits : List CommitRecord) (synced : ℕ)
             → OpenShows self.now past commits synced
-            → Tries (effect (made commits) (machine.get (tree_of key.now))) commits synced result self.now past past }
+            → Tries (finds (records_of (tree_of key.now) (rows_of (made commits)))) commits synced result self.now past
+            past }
         ensures none { (name : List ℕ) (doubt : _) → IsErrOf result (Trouble.File name doubt) → ⊥ }
-        ensures up { IfOk result (λ done. done.halts ≡ false) }
         ensures plain { IfOk result (λ done. IsPlain (seen.answer done.reply)) }
     {
         Ok(told(Reply::Found(self.table.read(alloc, key)?)))
@@ -179,12 +206,8 @@ impl Open {
             → OpenShows self.old (D.past disk.old) commits synced
             → Tries (effect (made commits) machine.sync_log) commits synced result self.new
             (D.past disk.old) (D.past disk.new) }
-        ensures calls { Calls (D.faults disk.old) (D.faults disk.new) (D.blamed disk.new)
-            (λ name. (doubt : _) × IsErrOf result (Trouble.File name doubt)) }
-        ensures touches { IsTrue D.tells → Touches IsLogName (D.past disk.old) (D.past disk.new) }
-        ensures log { IsTrue D.tells → StaysLog result (D.past disk.new) self.new }
-        ensures few { self.new.log.commits ≡ self.old.log.commits }
-        ensures plain { IfOk result (λ done. IsPlain (seen.answer done.reply)) }
+        ensures owes { Attempts D.Disk disk.old disk.new self.old self.new result }
+        ensures same { self.new.log.commits ≡ self.old.log.commits }
         ensures never { IsErrOf result Trouble.Memory → ⊥ }
         ensures one { D.moment disk.new ≤ D.moment disk.old + 1 }
     {
@@ -206,12 +229,8 @@ impl Open {
             → OpenShows self.old (D.past disk.old) commits synced
             → Tries (effect (made commits) machine.stop) commits synced result self.new
             (D.past disk.old) (D.past disk.new) }
-        ensures calls { Calls (D.faults disk.old) (D.faults disk.new) (D.blamed disk.new)
-            (λ name. (doubt : _) × IsErrOf result (Trouble.File name doubt)) }
-        ensures touches { IsTrue D.tells → Touches IsLogName (D.past disk.old) (D.past disk.new) }
-        ensures log { IsTrue D.tells → StaysLog result (D.past disk.new) self.new }
-        ensures few { self.new.log.commits ≡ self.old.log.commits }
-        ensures plain { IfOk result (λ done. IsPlain (seen.answer done.reply)) }
+        ensures owes { Attempts D.Disk disk.old disk.new self.old self.new result }
+        ensures same { self.new.log.commits ≡ self.old.log.commits }
         ensures calls_few { D.moment disk.new ≤ D.moment disk.old + 3 }
     {
         match self.log.close(disk) {

@@ -70,7 +70,7 @@ pub fn row_in(alloc: Global, commit: &Commit) -> Result<Option<Term>, AllocError
     }
     match commit.ops.as_slice() {
         [Op::Write(table, row)] => {
-            if table.text() == "t" && is_row(row) {
+            if is_table(table) && is_row(row) {
                 Ok(Some(copied(alloc, row)?))
             } else {
                 Ok(None)
@@ -78,6 +78,13 @@ pub fn row_in(alloc: Global, commit: &Commit) -> Result<Option<Term>, AllocError
         }
         _ => Ok(None),
     }
+}
+
+/// Whether the one table is called so.
+pub fn is_table(name: &Atom) -> bool
+    ensures { IsTrue result ↔ (name.now ≡ table_name) }
+{
+    name.text() == "t"
 }
 
 /// Whether it is a record of the table.
@@ -105,7 +112,7 @@ fn is_table_name(term: &Term) -> bool
     ensures { IsTrue result ↔ (tree_of term.now ≡ atom table_name) }
 {
     match term {
-        Term::Atom(atom) => atom.text() == "t",
+        Term::Atom(atom) => is_table(atom),
         Term::Int(_) | Term::Tuple(_) | Term::List(_) | Term::Bin(_) => false,
     }
 }

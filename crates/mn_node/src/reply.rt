@@ -2,7 +2,7 @@
 
 use file_trait::FileName;
 use sqlite_items::Items;
-use term_core::Term;
+use term_core::{Atom, Term};
 
 #[derive(Drop)]
 pub enum Reply {
@@ -16,6 +16,10 @@ pub enum Reply {
     Synced,
     /// The node is down, and its log is closed.
     Stopped,
+    /// There is no table of this name.
+    NoTable(Atom),
+    /// The table can have no such record.
+    BadRecord(Term),
     /// The line is no command, from this byte on.
     Badarg(u64),
     /// The node is down, and the command is no start.

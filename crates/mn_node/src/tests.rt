@@ -3,19 +3,16 @@
 ghost use Rattle.std.specs.Prelude.{◌≡◌, ◌+◌, ◌<◌, ◌^◌, ℕ, List, IfOk, IfSome, OnSome};
 ghost use Rattle.file_mem.specs.MemDisk.{disk_past};
 ghost use Rattle.mn_node.specs.Machine as machine;
-ghost use Rattle.mn_node.specs.Puts.{IsRow};
 ghost use Rattle.mn_node.specs.Seen as seen;
 ghost use Rattle.mn_node.specs.Shown.{HasLogOf, IsFew, IsWhole};
-ghost use Rattle.term_core.specs.View.{tree_of};
 
-use crate::puts::is_row;
 use crate::terms::atom;
 use crate::{Command, Node, Reply};
 use file_mem::MemDisk;
 use sqlite_items::Items;
 use std::alloc::{AllocError, Global};
 use std::test::Fail;
-use term_core::Term;
+use term_core::{Atom, Term};
 
 #[derive(Clone, Copy)]
 enum Act {
@@ -38,6 +35,7 @@ enum Told {
     Stopped,
     Down,
     Up,
+    Refused,
 }
 
 // What is done, and what is answered.
@@ -82,29 +80,30 @@ fn answered(alloc: Global, disk: &mut MemDisk, node: &mut Node, act: Act) -> Opt
         Act::Start => told_of(node.start(alloc, disk)),
         Act::Put(key, value) => {
             let row = row(alloc, key, value).ok()?;
-            told_of(node.answer(alloc, disk, Command::Put(row)))
+            told_of(node.answer(alloc, disk, Command::Put(name(alloc)?, row)))
         }
-        Act::Get(key) => told_of(node.answer(alloc, disk, Command::Get(Term::Int(key)))),
+        Act::Get(key) => {
+            let command = Command::Get(name(alloc)?, Term::Int(key));
+            told_of(node.answer(alloc, disk, command))
+        }
         Act::SyncLog => told_of(node.answer(alloc, disk, Command::SyncLog)),
         Act::Stop => told_of(node.answer(alloc, disk, Command::Stop)),
         Act::End => told_of(node.end(alloc, disk)),
     }
 }
 
+// The name of the table.
+fn name(alloc: Global) -> Option<Atom> {
+    Atom::new(alloc, "t").ok()
+}
+
 // `{t,Key,Value}`
-fn row(alloc: Global, key: i128, value: i128) -> Result<Term, AllocError>
-    ensures { IfOk result (λ row. IsRow (tree_of row)) }
-{
+fn row(alloc: Global, key: i128, value: i128) -> Result<Term, AllocError> {
     let mut parts = Items::new(alloc);
     parts.push(atom(alloc, "t")?)?;
     parts.push(Term::Int(key))?;
     parts.push(Term::Int(value))?;
-    let row = Term::Tuple(parts);
-    if is_row(&row) {
-        Ok(row)
-    } else {
-        Err(AllocError)
-    }
+    Ok(Term::Tuple(parts))
 }
 
 fn told_of(reply: Reply) -> Option<Told>
@@ -118,6 +117,7 @@ fn told_of(reply: Reply) -> Option<Told>
         Reply::Stopped => Some(Told::Stopped),
         Reply::Down => Some(Told::Down),
         Reply::Up => Some(Told::Up),
+        Reply::NoTable(_) | Reply::BadRecord(_) => Some(Told::Refused),
         Reply::Badarg(_) | Reply::Memory | Reply::Fault(_) | Reply::Damaged(_, _) => None,
     }
 }

@@ -1,16 +1,9 @@
-pub mod Asked
 pub mod Ends
-pub mod Fields
-pub mod LineLaws
 pub mod Parts
 pub mod Passing
-pub mod Readers
-pub mod Reading
-pub mod Refusals
 pub mod RunActs
 pub mod RunBroken
 pub mod RunCrash
 pub mod RunFronts
 pub mod RunLoop
 pub mod RunServes
-pub mod Sizes

@@ -11,7 +11,7 @@ use Rattle.mn_node.specs.Meaning.{Meaning, stands, broken, Stands}
 use Rattle.mn_node.specs.declared.node.Node.{Node}
 use Rattle.mn_node.proofs.NodeFacts.{shows_holds}
 use Rattle.mn_run.specs.Replies.{text_of}
-use Rattle.mn_run.specs.Runs.{World, Act, Follows, IsRun, last_of, events_of, line_of, lines_of_acts, last_line, commands_of, mark_if, mark_at, marks_from, marks_of}
+use Rattle.mn_run.specs.Runs.{World, Act, Follows, IsRun, last_of, events_of, line_of, lines_of_acts, last_line, OfLast, IfLast, WantsAt, commands_of, mark_if, mark_at, marks_from, marks_of}
 use Rattle.mn_run.specs.Seen.{event}
 use Rattle.mn_run.specs.declared.commands.Line.{Line}
 use Rattle.mn_run.specs.declared.commands.Line.TheVariants.{Start, Do, Refused}
@@ -62,6 +62,31 @@ lines_more acts a = sym (flat_map_more (λ (x : Act). line_of x.event x.answer) 
 pub last_line_more : (line : List ℕ) (acts : List Act) (a : Act) → last_line line (acts ++ a ∷ []) ≡ line_of a.event a.answer
 last_line_more line [] a = refl
 last_line_more line (x ∷ acts) a = last_line_more (line_of x.event x.answer) acts a
+
+-- ---- the last act
+
+of_last_more : (Fact : Act → Type 0) (x : Act) (acts : List Act) (a : Act) → Fact a → OfLast Fact x (acts ++ a ∷ [])
+of_last_more Fact x [] a is = is
+of_last_more Fact x (y ∷ acts) a is = of_last_more Fact y acts a is
+
+pub if_last_more : (Fact : Act → Type 0) (acts : List Act) (a : Act) → Fact a → IfLast Fact (acts ++ a ∷ [])
+if_last_more Fact [] a is = is
+if_last_more Fact (x ∷ acts) a is = of_last_more Fact x acts a is
+
+of_last_map : (Fact Other : Act → Type 0) → ((a : Act) → Fact a → Other a) → (x : Act) (acts : List Act) → OfLast Fact x acts
+    → OfLast Other x acts
+of_last_map Fact Other map x [] is = map x is
+of_last_map Fact Other map x (y ∷ acts) is = of_last_map Fact Other map y acts is
+
+pub if_last_map : (Fact Other : Act → Type 0) → ((a : Act) → Fact a → Other a) → (acts : List Act) → IfLast Fact acts → IfLast Other acts
+if_last_map Fact Other map [] is = tt
+if_last_map Fact Other map (x ∷ acts) is = of_last_map Fact Other map x acts is
+
+-- behind another event than the script's end nothing is asked
+pub wants_elsewhere : (AllMarked : Type 0) (event : Event) (answer : Answer) (last : Machine) → (event ≡ machine.end → ⊥)
+    → WantsAt AllMarked event answer last
+wants_elsewhere AllMarked machine.end answer last other = absurd (other refl)
+wants_elsewhere AllMarked event answer last other = tt
 
 -- ---- counts of commands, and marks
 
@@ -140,7 +165,7 @@ no_turn Start is = cc
 no_turn (Do c) is = cc
 no_turn (Refused at) is = cc
 
-no_end : (line : Line) → event line ≡ machine.end → ⊥
+pub no_end : (line : Line) → event line ≡ machine.end → ⊥
 no_end Start is = cc
 no_end (Do c) is = cc
 no_end (Refused at) is = cc

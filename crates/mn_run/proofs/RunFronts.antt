@@ -1,23 +1,24 @@
 -- A run so far, and how it goes on and ends.
-use Rattle.std.proofs.Common.{◌≡◌, ℕ, ◌+◌, ◌≤◌, Bool, IsTrue, List, [], ◌∷◌, ◌++◌, length, Option, Err, sym, ap, ◌∙◌, subst, append_assoc, append-nil, length-append, arith}
+use Rattle.std.proofs.Common.{◌≡◌, ℕ, ◌+◌, ◌≤◌, Bool, IsTrue, List, [], ◌∷◌, ◌++◌, length, Option, Err, refl, sym, ap, ◌∙◌, subst, append_assoc, append-nil, length-append, arith}
 use Rattle.file_trait.specs.DiskModel.{Past, reads, Crashes}
 use Rattle.file_trait.specs.Moments.{Moments}
 use Rattle.disk_logs.specs.Crash.{IsSound}
 use Rattle.mn_node.specs.Shown.{HasLog, Shows}
 use Rattle.mn_node.specs.Machine.{Machine, Event, Leaves}
+use Rattle.mn_node.specs.Machine as machines
 use Rattle.mn_node.specs.Meaning.{latest, Meaning, broken}
 use Rattle.mn_node.specs.declared.node.Node.{Node}
 use Rattle.mn_run.specs.Asks.{Passes, GivesUp}
 use Rattle.mn_run.specs.Script.{plan_of, events_of_plan}
 use Rattle.mn_run.specs.Runs.{World, Act, Follows, IsRun, last_of, events_of, line_of, lines_of_acts, last_line, mark_at, marks_of, EndsAt, EndsScript, EndsPrinted, Acted, ArePrinted}
-use Rattle.mn_run.specs.Sessions.{Halts}
+use Rattle.mn_run.specs.Sessions.{Halts, AreUnended}
 use Rattle.mn_run.specs.declared.outcome.Mark.{Mark}
 use Rattle.mn_run.specs.declared.outcome.Status.{Status}
 use Rattle.mn_run.specs.declared.outcome.Status.TheVariants as status
 use Rattle.mn_run.specs.declared.session.Session.{Session}
 use Rattle.mn_run.specs.declared.session.TheConstants.{MOST_GATHERED}
 use Rattle.mn_node.proofs.NodeFacts.{shows_holds}
-use Rattle.mn_run.proofs.RunActs.{world, world_is, run_more, last_more, events_more, lines_more, last_line_more, done_with, marks_more}
+use Rattle.mn_run.proofs.RunActs.{world, world_is, run_more, last_more, events_more, lines_more, last_line_more, if_last_more, done_with, marks_more}
 use Rattle.mn_run.proofs.RunCrash.{LeavesNow, at_moments, sound_moments}
 
 -- what the session, the disk and the sink are at one point of the run
@@ -96,6 +97,7 @@ module _ (script_told sink_told : Bool) (script : List ℕ) (old : World) (first
     pub read : IsTrue script_told → (events_of_plan (plan_of script) ≡ events_of acts ++ todo) × ((plan_of script).over ≡ over)
     pub written : IsTrue sink_told → Written acts first now.out now.text
     pub small : length now.text ≤ MOST_GATHERED + length (last_line [] acts)
+    pub unended : AreUnended acts
 
   -- the same, by what else is known of the script
   abbrev pub front_as : (count : Event → ℕ) (todo later : List Event) (over over_then : Option ℕ) (now : Point)
@@ -111,6 +113,7 @@ module _ (script_told sink_told : Bool) (script : List ℕ) (old : World) (first
     shows = f.shows;
     written = f.written;
     small = f.small;
+    unended = f.unended;
     read = λ told. ((f.read told).0 ∙ ap (λ es. events_of f.acts ++ es) (same told).0, (f.read told).1 ∙ (same told).1);
   }
 
@@ -129,6 +132,7 @@ module _ (script_told sink_told : Bool) (script : List ℕ) (old : World) (first
     shows = f.shows;
     read = f.read;
     small = omega (arith, f.small, less);
+    unended = f.unended;
     written = λ told. written_on f.acts first now.out now.text (f.written told) ⊥ out text (passed told) (λ x. x);
   }
 
@@ -158,15 +162,18 @@ module _ (script_told sink_told : Bool) (script : List ℕ) (old : World) (first
       (f : Front count todo over now)
       → EndsAt end [] (reads now.past) (last_of old f.acts).machine → (IsTrue script_told → EndsScript end todo over)
       → (IsTrue sink_told → Passes (GivesUp {T = T} (Err end)) now.text text now.out out)
-      → Halts script_told sink_told script end old now.past now.faults first out text now.marks
-  halt_now T count todo over now out text end f ends asks passed = record {
-    acts = f.acts;
-    acted = acted end f.acts now.node now.past now.faults now.marks [] f.run f.leaves f.past f.faults
-        (f.marked ∙ sym (append-nil now.marks)) (omega arith) f.shows ends;
-    asked = λ told. record { later = todo; read = (f.read told).0; ends = subst (EndsScript end todo) (sym (f.read told).1) (asks told) };
-    printed = λ told. printed_so f.acts first now.out now.text (f.written told) (GivesUp {T = T} (Err end)) out text
-        (passed told) end f.small (ends_printed T end (passed told).lost (passed told).all);
-  }
+      → (halts : Halts script_told sink_told script end old now.past now.faults first out text now.marks) × AreUnended halts.acts
+  halt_now T count todo over now out text end f ends asks passed = (
+    record {
+      acts = f.acts;
+      acted = acted end f.acts now.node now.past now.faults now.marks [] f.run f.leaves f.past f.faults
+          (f.marked ∙ sym (append-nil now.marks)) (omega arith) f.shows ends;
+      asked = λ told. record { later = todo; read = (f.read told).0; ends = subst (EndsScript end todo) (sym (f.read told).1) (asks told) };
+      printed = λ told. printed_so f.acts first now.out now.text (f.written told) (GivesUp {T = T} (Err end)) out text
+          (passed told) end f.small (ends_printed T end (passed told).lost (passed told).all);
+    },
+    f.unended,
+  )
 
   -- ---- one act more
 
@@ -202,8 +209,8 @@ module _ (script_told sink_told : Bool) (script : List ℕ) (old : World) (first
     pub front_more : (count_now : Event → ℕ) → ((before : List Act) → ((next : Event) → done_with before next ≡ count next) → (next : Event)
         → done_with (before ++ a ∷ []) next ≡ count_now next)
         → length now.text ≤ MOST_GATHERED → new.text ≡ now.text ++ line_of a.event a.answer
-        → new.marks ≡ now.marks ++ mark_at (count a.event) a → Front count_now todo over new
-    front_more count_now counts few text marks = record {
+        → new.marks ≡ now.marks ++ mark_at (count a.event) a → (a.event ≡ machines.end → ⊥) → Front count_now todo over new
+    front_more count_now counts few text marks goes_on = record {
       acts = acts;
       run = run;
       leaves = f.leaves;
@@ -214,6 +221,7 @@ module _ (script_told sink_told : Bool) (script : List ℕ) (old : World) (first
       faults = ap (λ (w : World). w.faults) last ∙ faults;
       shows = subst (λ (w : World). Shows old.past new.node new.past w.machine) (sym last) shows;
       small = omega (arith, few, ap length text, length-append now.text (line_of a.event a.answer), ap length (last_line_more [] f.acts a));
+      unended = if_last_more (λ act. act.event ≡ machines.end → ⊥) f.acts a goes_on;
       read = λ told. (read_more told, (f.read told).1);
       written = λ told. record {
         printed = (f.written told).printed;
@@ -223,35 +231,42 @@ module _ (script_told sink_told : Bool) (script : List ℕ) (old : World) (first
       };
     }
 
+    pub marks_with : (taken unmarked : List Mark) → mark_at (count a.event) a ≡ taken ++ unmarked → new.marks ≡ now.marks ++ taken
+        → marks_of acts ≡ new.marks ++ unmarked
+    marks_with taken unmarked mark marks =
+        marks_more f.acts a ∙ ap (λ n. marks_of f.acts ++ mark_at n a) (f.counted a.event) ∙ ap (λ xs. marks_of f.acts ++ xs) mark
+        ∙ sym (append_assoc (marks_of f.acts) taken unmarked)
+        ∙ ap (λ xs. (xs ++ taken) ++ unmarked) f.marked ∙ ap (λ xs. xs ++ unmarked) (sym marks)
+
     -- Behind it the run ends. Of its line this rest was not gathered, and of its mark the rest was not taken.
     pub halt_with : (end : Status) (rest : List ℕ) (taken unmarked : List Mark) → length now.text ≤ MOST_GATHERED
         → new.text ++ rest ≡ now.text ++ line_of a.event a.answer
         → mark_at (count a.event) a ≡ taken ++ unmarked → new.marks ≡ now.marks ++ taken → length unmarked ≤ 1
         → EndsAt end unmarked (reads new.past) a.after.machine → (IsTrue script_told → EndsScript end todo over) → EndsPrinted end rest
-        → Halts script_told sink_told script end old new.past new.faults first new.out new.text new.marks
-    halt_with end rest taken unmarked small text mark marks few ends asks prints = record {
-      acts = acts;
-      acted = acted end acts new.node new.past new.faults new.marks unmarked run f.leaves (ap (λ (w : World). w.past) last ∙ past)
-          (ap (λ (w : World). w.faults) last ∙ faults)
-          (marks_more f.acts a ∙ ap (λ n. marks_of f.acts ++ mark_at n a) (f.counted a.event) ∙ ap (λ xs. marks_of f.acts ++ xs) mark
-          ∙ sym (append_assoc (marks_of f.acts) taken unmarked)
-          ∙ ap (λ xs. (xs ++ taken) ++ unmarked) f.marked ∙ ap (λ xs. xs ++ unmarked) (sym marks))
-          few (subst (λ (w : World). Shows old.past new.node new.past w.machine) (sym last) shows)
-          (subst (λ (w : World). EndsAt end unmarked (reads new.past) w.machine) (sym last) ends);
-      asked = λ told. record { later = todo; read = read_more told; ends = subst (EndsScript end todo) (sym (f.read told).1) (asks told) };
-      printed = λ told. record {
-        printed = (f.written told).printed;
-        unprinted = rest;
-        grown = out ∙ (f.written told).grown;
-        lines = lines_with told (new.text ++ rest) text;
-        few = omega (
-          arith,
-          small,
-          ap length text,
-          length-append now.text (line_of a.event a.answer),
-          ap length
-              (last_line_more [] f.acts a),
-        );
-        ends = prints;
-      };
-    }
+        → (halts : Halts script_told sink_told script end old new.past new.faults first new.out new.text new.marks) × (halts.acts ≡ acts)
+    halt_with end rest taken unmarked small text mark marks few ends asks prints = (
+      record {
+        acts = acts;
+        acted = acted end acts new.node new.past new.faults new.marks unmarked run f.leaves (ap (λ (w : World). w.past) last ∙ past)
+            (ap (λ (w : World). w.faults) last ∙ faults)
+            (marks_with taken unmarked mark marks) few (subst (λ (w : World). Shows old.past new.node new.past w.machine) (sym last) shows)
+            (subst (λ (w : World). EndsAt end unmarked (reads new.past) w.machine) (sym last) ends);
+        asked = λ told. record { later = todo; read = read_more told; ends = subst (EndsScript end todo) (sym (f.read told).1) (asks told) };
+        printed = λ told. record {
+          printed = (f.written told).printed;
+          unprinted = rest;
+          grown = out ∙ (f.written told).grown;
+          lines = lines_with told (new.text ++ rest) text;
+          few = omega (
+            arith,
+            small,
+            ap length text,
+            length-append now.text (line_of a.event a.answer),
+            ap length
+                (last_line_more [] f.acts a),
+          );
+          ends = prints;
+        };
+      },
+      refl,
+    )

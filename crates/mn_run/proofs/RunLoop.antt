@@ -1,11 +1,12 @@
 -- How the loop over the lines begins, goes on and ends.
-use Rattle.std.proofs.Common.{◌≡◌, ◌⊎◌, ℕ, ◌+◌, ◌≤◌, Bool, IsTrue, List, [], ◌∷◌, ◌++◌, length, take, drop, None, Option, Result, Ok, Err, refl, sym, ap, ◌∙◌, subst, inl, inr, append_assoc, append-nil, length-append, arith}
+use Rattle.std.proofs.Common.{◌≡◌, ◌⊎◌, ℕ, ◌+◌, ◌≤◌, ◌<◌, Bool, IsTrue, List, [], ◌∷◌, ◌++◌, length, take, drop, None, Option, Result, Ok, Err, refl, sym, ap, ◌∙◌, subst, inl, inr, append_assoc, append-nil, length-append, arith}
 use Rattle.std.proofs.lemmas.List.{take-append-drop}
 use Rattle.std.proofs.Math.Seq.{drop-nil}
 use Rattle.file_trait.specs.Counts.{Rose}
 use Rattle.file_trait.specs.DiskModel.{Past, reads}
 use Rattle.txn_log.specs.Logs.{Reads}
 use Rattle.mn_node.specs.Puts.{ArePuts}
+use Rattle.mn_node.proofs.MachineLaws.{answers_undamaged}
 use Rattle.mn_node.specs.Shown.{ShowsLife, Shows, IsFew, IsFaulted, IsWhole}
 use Rattle.mn_node.specs.Machine.{Machine, Event, Answer, stopped, is_down, fault, damaged, Life, halted, faulted, ruined, IsAlive, unstarted_machine, Step, Change, Boots, ComesUp, Choice, as_asked, out_of_memory, failed, Comes, Effect, effect, now_of, Does, HoldsClosed, added}
 use Rattle.mn_node.specs.Machine as machines
@@ -15,10 +16,10 @@ use Rattle.mn_node.specs.declared.node.State.{State}
 use Rattle.mn_node.specs.declared.node.State.TheVariants.{Unstarted, Up, Stopped, Faulted, Starved, Ruined}
 use Rattle.mn_run.specs.Asks.{Asks, Goes, Passes, GivesUp, IsKeptOrGone, IsOfReading, IsOfFlushing}
 use Rattle.mn_run.specs.Replies.{text_of}
-use Rattle.mn_run.specs.Runs.{World, Act, Follows, last_of, line_of, commands_of, mark_of, mark_if, mark_at, IsTrusted, EndsAt, EndsScript, EndsPrinted, Acted, IsAsked, ArePrinted, Ran}
+use Rattle.mn_run.specs.Runs.{World, Act, Follows, last_of, line_of, IfLast, WantsAt, HasWanted, commands_of, marks_of, mark_of, mark_if, mark_at, IsTrusted, EndsAt, EndsScript, EndsPrinted, Acted, IsAsked, ArePrinted, Ran}
 use Rattle.mn_run.specs.Script.{Plan, behind, plan_of, at_end}
 use Rattle.mn_run.specs.Seen.{event}
-use Rattle.mn_run.specs.Sessions.{Served, Ended, EndsAs, MarksEnd, IsOfAnswering, IsOfEnding, Finished, Halts, Gave, new_node}
+use Rattle.mn_run.specs.Sessions.{Served, Ended, EndsAs, MarksEnd, IsOfAnswering, IsOfEnding, Finished, Halts, AreUnended, Gave, new_node}
 use Rattle.mn_run.specs.declared.asks.Ask.{Ask}
 use Rattle.mn_run.specs.declared.asks.Ask.TheVariants as ask
 use Rattle.mn_run.specs.declared.commands.Line.{Line}
@@ -28,8 +29,8 @@ use Rattle.mn_run.specs.declared.outcome.Status.{Status}
 use Rattle.mn_run.specs.declared.outcome.Status.TheVariants as status
 use Rattle.mn_run.specs.declared.session.Session.{Session}
 use Rattle.mn_run.specs.declared.session.TheConstants.{MOST_GATHERED}
-use Rattle.mn_run.proofs.RunActs.{world, act, follows, done_with, done_more, mark_few, prints, is_command, no_mark, one_mark}
-use Rattle.mn_run.proofs.RunFronts.{Point, point, Front, here, front_as, front_on, front_more, halt_now, halt_with}
+use Rattle.mn_run.proofs.RunActs.{world, act, follows, if_last_more, if_last_map, wants_elsewhere, no_end, done_with, done_more, mark_few, prints, is_command, no_mark, one_mark}
+use Rattle.mn_run.proofs.RunFronts.{Point, point, Front, here, front_as, front_on, front_more, marks_with, halt_now, halt_with}
 
 -- ---- how the script's end is answered
 
@@ -60,6 +61,20 @@ ended_faulted old (fault name) new (inl (up, choice, may, comes)) how =
 ended_faulted old (fault name) new (inr (down, (is, so))) how = absurd cc
 ended_faulted old is_down new change how = how
 ended_faulted old given new change how = absurd how
+
+-- a stop finds no damage
+never_damaged : (old : Machine) (name : List ℕ) (at : ℕ) (new : Machine) → Change old machines.end (damaged name at) new → ⊥
+never_damaged old name at new (inl (up, as_asked, may, (is, so))) = cc
+never_damaged old name at new (inl (up, out_of_memory, may, (is, so))) = cc
+never_damaged old name at new (inl (up, failed file, may, (is, so))) = cc
+never_damaged old name at new (inr (down, (is, so))) = cc
+
+wants_end : (AllMarked : Type 0) (old : Machine) (given : Answer) (new : Machine) (mark : Mark) → Change old machines.end given new
+    → EndsAs given new status.Memory → (0 < length (mark_if machines.end given mark) → AllMarked → ⊥)
+    → WantsAt AllMarked machines.end given new
+wants_end AllMarked old is_down new mark change how none = how
+wants_end AllMarked old (damaged name at) new mark change how none = absurd (never_damaged old name at new change)
+wants_end AllMarked old given new mark change how none = none (omega arith)
 
 -- a machine that was halted is shown by a closed log
 closed_of : (first : Past) (node : Node) (past : Past) (machine : Machine) → Shows first node past machine → machine.life ≡ halted
@@ -93,10 +108,7 @@ up_ruins (failed file) old name at new (named, told, so) = absurd cc
 
 comes_undamaged : (choice : Choice) (w : machines.Command) (old : Machine) (name : List ℕ) (at : ℕ) (new : Machine)
     → Comes choice (effect (now_of old) w) old (damaged name at) new → ⊥
-comes_undamaged as_asked (machines.put item) old name at new (told, so) = cc
-comes_undamaged as_asked (machines.get key) old name at new (told, so) = cc
-comes_undamaged as_asked machines.sync_log old name at new (told, so) = cc
-comes_undamaged as_asked machines.stop old name at new (told, so) = cc
+comes_undamaged as_asked w old name at new (told, so) = answers_undamaged (now_of old) w name at (sym told)
 comes_undamaged out_of_memory w old name at new (told, so) = cc
 comes_undamaged (failed file) w old name at new (told, so) = cc
 
@@ -215,7 +227,8 @@ module _ (script_told sink_told : Bool) (script : List ℕ) (old : World) (first
   SoFar plan done now = FrontAt (counts_from done) (todo_of plan) plan.over now
 
   abbrev pub HaltsAt : Status → Point → Type 0
-  HaltsAt end now = Halts script_told sink_told script end old now.past now.faults first now.out now.text now.marks
+  HaltsAt end now =
+      (halts : Halts script_told sink_told script end old now.past now.faults first now.out now.text now.marks) × AreUnended halts.acts
 
   -- before the first start
   abbrev pub unstarted : Node → Point
@@ -236,6 +249,7 @@ module _ (script_told sink_told : Bool) (script : List ℕ) (old : World) (first
     read = λ told. (refl, refl);
     written = λ told. record { printed = []; grown = sym (append-nil first); lines = refl };
     small = omega arith;
+    unended = tt;
   }
 
   -- the first act counts as none
@@ -277,7 +291,7 @@ module _ (script_told sink_told : Bool) (script : List ℕ) (old : World) (first
         ((h.told.ok ok).1 ∙ ap (λ xs. xs ++ mark_of (count (event line)) a.after ∷ []) same_marks
         ∙ ap (λ xs. now.marks ++ xs) (sym
         (one_mark line h.answer (mark_of (count (event line)) a.after)
-        (λ name at is. let other = sym ok ∙ h.told.sound name at is in cc other))))
+        (λ name at is. let other = sym ok ∙ h.told.sound name at is in cc other)))) (no_end line)
 
     abbrev rest_of : List ℕ
     rest_of = drop h.told.some.n (text_of h.answer)
@@ -288,23 +302,31 @@ module _ (script_told sink_told : Bool) (script : List ℕ) (old : World) (first
         ∙ append_assoc now.text (take h.told.some.n (text_of h.answer)) rest_of
         ∙ ap (λ xs. now.text ++ xs) (take-append-drop h.told.some.n (text_of h.answer) ∙ sym (prints line h.answer))
 
+    abbrev LineHalts : Status → Type 0
+    LineHalts end = (halts : Halts script_told sink_told script end old past faults first now.out new.text.items new.marks.items)
+        × (halts.acts ≡ f.acts ++ a ∷ [])
+
+    unended : (end : Status) → LineHalts end → HaltsAt end then
+    unended end h =
+        (h.0, subst AreUnended (sym h.1) (if_last_more (λ (x : Act). x.event ≡ machines.end → ⊥) f.acts a (no_end line)))
+
     line_ends : (end : Status) → result ≡ Err end → IsOfAnswering end → length now.text ≤ MOST_GATHERED → HaltsAt end then
-    line_ends status.Memory err only small =
-        halt_with script_told sink_told script old first count todo over now then a f step h.steps.shows refl refl refl status.Memory
+    line_ends status.Memory err only small = unended status.Memory
+        (halt_with script_told sink_told script old first count todo over now then a f step h.steps.shows refl refl refl status.Memory
         rest_of [] (mark_at (count (event line)) a) small rest_is refl
         (h.told.err status.Memory err ∙ same_marks ∙ sym (append-nil now.marks))
-        (mark_few (event line) h.answer (mark_of (count (event line)) a.after)) tt (λ told. tt) tt
+        (mark_few (event line) h.answer (mark_of (count (event line)) a.after)) tt (λ told. tt) tt)
     line_ends (status.Damaged name at) err only small =
         let is : h.answer ≡ damaged name at = h.told.damage name at err in
         let found = found_damage (last_of old f.acts).machine (event line) name at h.steps.new
         (subst (λ (x : Answer). Change (last_of old f.acts).machine (event line) x h.steps.new) is h.steps.step.change) in
-        halt_with script_told sink_told script old first count todo over now then a f step h.steps.shows refl refl refl
+        unended (status.Damaged name at) (halt_with script_told sink_told script old first count todo over now then a f step h.steps.shows refl refl refl
         (status.Damaged name at) rest_of [] [] small rest_is
         (ap (λ (x : Answer). mark_if (event line) x (mark_of (count (event line)) a.after)) is
         ∙ no_mark line name at (mark_of (count (event line)) a.after))
         (h.told.err (status.Damaged name at) err ∙ same_marks ∙ sym (append-nil now.marks)) (omega arith) (refl, found.0, found.1)
         (λ told. tt)
-        (ap (λ (x : Answer). drop h.told.some.n (text_of x)) is ∙ drop-nil h.told.some.n)
+        (ap (λ (x : Answer). drop h.told.some.n (text_of x)) is ∙ drop-nil h.told.some.n))
     line_ends end err only small = absurd only
 
   -- ---- the loop
@@ -448,13 +470,16 @@ module _ (script_told sink_told : Bool) (script : List ℕ) (old : World) (first
 
   -- ---- the script's end
 
-  ran_of : (end : Status) (now : Point) → now.text ≡ [] → HaltsAt end now
+  ran_of : (end : Status) (now : Point) → now.text ≡ []
+      → (h : Halts script_told sink_told script end old now.past now.faults first now.out now.text now.marks)
+      → (end ≡ status.Memory → HasWanted h.acts now.marks)
       → Ran script_told sink_told script end old now.past now.faults first now.out now.marks
-  ran_of end now none h = record {
+  ran_of end now none h wanted = record {
     acts = h.acts;
     acted = h.acted;
     asked = h.asked;
     printed = λ told. subst (λ xs. ArePrinted end h.acts first now.out xs) none (h.printed told);
+    wanted = wanted;
   }
 
   module _ (done done_now : ℕ) (now : Point) (f : FrontAt (counts_from done) (machines.end ∷ []) None now) (same : done_now ≡ done)
@@ -475,18 +500,31 @@ module _ (script_told sink_told : Bool) (script : List ℕ) (old : World) (first
 
     ends_with : (taken unmarked : List Mark) → left ≡ taken ++ unmarked → new.marks.items ≡ session.marks.items ++ taken
         → length unmarked ≤ 1 → EndsAt end unmarked (reads past) h.steps.new → EndsScript end [] None → EndsPrinted end []
+        → (end ≡ status.Memory → HasWanted (f.acts ++ b ∷ []) new.marks.items)
         → Ran script_told sink_told script end old past faults first now.out new.marks.items
-    ends_with taken unmarked mark marks few ends asks prints =
-        ran_of end ended refl
+    ends_with taken unmarked mark marks few ends asks prints wanted =
+        let halts =
         (halt_with script_told sink_told script old first (counts_from done) [] None now ended b f
         (follows old.past (last_of old f.acts).machine now.past now.faults machines.end h.answer session.node new.node past faults h.steps h.later
         h.rose h.answered) h.steps.shows refl refl refl
         end [] taken unmarked (omega (arith, ap length none)) (sym none ∙ sym (append-nil now.text)) (left_is ∙ mark)
-        (marks ∙ ap (λ xs. xs ++ taken) same_marks) few ends (λ told. asks) prints)
+        (marks ∙ ap (λ xs. xs ++ taken) same_marks) few ends (λ told. asks) prints) in
+        ran_of end ended refl halts.0 (λ is. subst (λ acts. HasWanted acts new.marks.items) (sym halts.1) (wanted is))
 
     all_taken : new.marks.items ≡ session.marks.items ++ left → EndsAt end [] (reads past) h.steps.new → EndsScript end [] None
-        → EndsPrinted end [] → Ran script_told sink_told script end old past faults first now.out new.marks.items
-    all_taken marks ends asks prints = ends_with left [] (sym (append-nil left)) marks (omega arith) ends asks prints
+        → EndsPrinted end [] → (end ≡ status.Memory → ⊥)
+        → Ran script_told sink_told script end old past faults first now.out new.marks.items
+    all_taken marks ends asks prints other =
+        ends_with left [] (sym (append-nil left)) marks (omega arith) ends asks prints (λ is. absurd (other is))
+
+    -- the mark of the end is not among those that were taken
+    none_marked : new.marks.items ≡ session.marks.items → 0 < length left → marks_of (f.acts ++ b ∷ []) ≡ new.marks.items → ⊥
+    none_marked none some all =
+        let parts = marks_with script_told sink_told script old first (counts_from done) [] None now ended b f
+        (follows old.past (last_of old f.acts).machine now.past now.faults machines.end h.answer session.node new.node past faults h.steps h.later
+        h.rose h.answered) h.steps.shows refl refl refl [] left left_is
+        (none ∙ same_marks ∙ sym (append-nil now.marks)) in
+        omega (arith, ap length parts, ap length all, length-append new.marks.items left, some)
 
     pub end_ends : (how : Status) → end ≡ how → IsOfEnding how
         → Ran script_told sink_told script end old past faults first now.out new.marks.items
@@ -498,23 +536,26 @@ module _ (script_told sink_told : Bool) (script : List ℕ) (old : World) (first
         (subst (λ e. EndsAt e [] (reads past) h.steps.new) (sym is)
         (refl, life, closed_of old.past new.node past h.steps.new h.steps.shows life))
         (subst (λ e. EndsScript e [] None) (sym is) (refl, refl)) (subst (λ e. EndsPrinted e []) (sym is) refl)
+        (λ wants. let other = sym is ∙ wants in cc other)
     end_ends status.DiskFault is only =
         let life : h.steps.new.life ≡ faulted =
         ended_faulted (last_of old f.acts).machine h.answer h.steps.new h.steps.step.change
         (subst (EndsAs h.answer h.steps.new) is h.how) in
         all_taken (subst (λ e. MarksEnd e left session.marks.items new.marks.items) is h.marked)
         (subst (λ e. EndsAt e [] (reads past) h.steps.new) (sym is) (refl, life)) (subst (λ e. EndsScript e [] None) (sym is) (refl, refl))
-        (subst (λ e. EndsPrinted e []) (sym is) refl)
+        (subst (λ e. EndsPrinted e []) (sym is) refl) (λ wants. let other = sym is ∙ wants in cc other)
     end_ends status.Memory is only =
         let at : (unmarked : List Mark) → EndsAt end unmarked (reads past) h.steps.new = λ unmarked. subst
         (λ e. EndsAt e unmarked (reads past) h.steps.new) (sym is) tt in
         let asks : EndsScript end [] None = subst (λ e. EndsScript e [] None) (sym is) tt in
         let prints : EndsPrinted end [] = subst (λ e. EndsPrinted e []) (sym is) tt in
-        elim (subst (λ e. MarksEnd e left session.marks.items new.marks.items) is h.marked) [
-          | inl unmarked ↦ ends_with [] left refl (unmarked ∙ sym (append-nil session.marks.items))
-              (mark_few machines.end h.answer (mark_of done_now b.after)) (at left) asks prints
-          | inr marked ↦ all_taken marked (at []) asks prints
-        ]
+        let none = subst (λ e. MarksEnd e left session.marks.items new.marks.items) is h.marked in
+        ends_with [] left refl (none ∙ sym (append-nil session.marks.items))
+        (mark_few machines.end h.answer (mark_of done_now b.after)) (at left) asks prints
+        (λ wants. if_last_more
+        (λ (x : Act). WantsAt (marks_of (f.acts ++ b ∷ []) ≡ new.marks.items) x.event x.answer x.after.machine) f.acts b
+        (wants_end (marks_of (f.acts ++ b ∷ []) ≡ new.marks.items) (last_of old f.acts).machine h.answer h.steps.new
+        (mark_of done_now b.after) h.steps.step.change (subst (EndsAs h.answer h.steps.new) is h.how) (none_marked none)))
     end_ends status.ReadFault is only = absurd only
     end_ends status.WriteFault is only = absurd only
     end_ends status.Usage is only = absurd only
@@ -590,13 +631,16 @@ module _ (script_told sink_told : Bool) (script : List ℕ) (old : World) (first
 
   pub finish_ends : (end result : Status) (now : Past) (faults : ℕ) (out text out_now : List ℕ) (marks : List Mark)
       → (result ≡ end) ⊎ IsOfFlushing result → (IsTrue sink_told → Finished end result text out out_now)
-      → Halts script_told sink_told script end old now faults first out text marks
+      → ((halts : Halts script_told sink_told script end old now faults first out text marks) × AreUnended halts.acts)
       → Ran script_told sink_told script result old now faults first out_now marks
-  finish_ends end result now faults out text out_now marks how finished h = record {
+  finish_ends end result now faults out text out_now marks how finished (h, open_yet) = record {
     acts = h.acts;
     acted = acted_as end result h.acts now faults marks how h.acted;
     asked = λ told. asked_as end result h.acts how (h.asked told);
     printed = λ told. printed_as end result h.acts out text out_now (finished told) (h.printed told);
+    wanted = λ wants. if_last_map (λ (x : Act). x.event ≡ machines.end → ⊥)
+        (λ (x : Act). WantsAt (marks_of h.acts ≡ marks) x.event x.answer x.after.machine)
+        (λ x other. wants_elsewhere (marks_of h.acts ≡ marks) x.event x.answer x.after.machine other) h.acts open_yet;
   }
 
   -- a status ended the loop

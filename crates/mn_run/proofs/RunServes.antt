@@ -5,7 +5,7 @@ use Rattle.std.proofs.lemmas.List.{take_all}
 use Rattle.file_trait.specs.Counts.{Rose}
 use Rattle.file_trait.specs.DiskModel.{Past, clock}
 use Rattle.mn_node.specs.Shown.{Shows, ShowsLife, Steps, IsWhole}
-use Rattle.mn_node.specs.Machine.{Machine, Event, Answer, stopped, is_down, fault, damaged}
+use Rattle.mn_node.specs.Machine.{Machine, Event, Answer, stopped, is_down, fault, damaged, Life, unstarted, running, halted, faulted, starved, ruined}
 use Rattle.mn_node.specs.Machine as machines
 use Rattle.mn_node.specs.declared.node.Node.{Node}
 use Rattle.mn_node.specs.declared.node.State.{State}
@@ -48,12 +48,30 @@ not_damaged replies.Done none name at is = cc
 not_damaged (replies.Found records) none name at is = cc
 not_damaged replies.Synced none name at is = cc
 not_damaged replies.Stopped none name at is = cc
+not_damaged (replies.NoTable table) none name at is = cc
+not_damaged (replies.BadRecord item) none name at is = cc
 not_damaged (replies.Badarg place) none name at is = cc
 not_damaged replies.Down none name at is = cc
 not_damaged replies.Up none name at is = cc
 not_damaged replies.Memory none name at is = cc
 not_damaged (replies.Fault file) none name at is = cc
 not_damaged (replies.Damaged file place) none name at is = none file place refl
+
+-- a reply that is not of a node that was down ends the run for want of memory where its mark found no room
+pub wants_reply : (reply : Reply) (new : Machine) → (reply ≡ replies.Down → ⊥) → EndsAs (answer reply) new status.Memory
+wants_reply (replies.Started n) new up = tt
+wants_reply replies.Done new up = tt
+wants_reply (replies.Found records) new up = tt
+wants_reply replies.Synced new up = tt
+wants_reply replies.Stopped new up = tt
+wants_reply (replies.NoTable table) new up = tt
+wants_reply (replies.BadRecord item) new up = tt
+wants_reply (replies.Badarg place) new up = tt
+wants_reply replies.Down new up = absurd (up refl)
+wants_reply replies.Up new up = tt
+wants_reply replies.Memory new up = tt
+wants_reply (replies.Fault file) new up = tt
+wants_reply (replies.Damaged file place) new up = tt
 
 module _ (given : Answer) (mark : Mark) (old_text new_text : List ℕ) (old_marks new_marks : List Mark) (sound : (name : List ℕ) (at : ℕ)
     → given ≡ damaged name at → ⊥) (all : new_text ≡ old_text ++ text_of given) where
@@ -98,7 +116,7 @@ module _ (first : Past) (machine : Machine) (before : Past) (faults : ℕ) (sess
     (rose : (name : List ℕ) → answer ≡ fault name → Rose faults faults_now)
     (answered : ((name : List ℕ) → answer ≡ fault name → ⊥) → faults_now ≡ faults) where
   module _ (event : Event) (steps : Steps first machine event answer session.node node before now) where
-    s : Steps first machine event answer session.node new.node before now
+    abbrev pub s : Steps first machine event answer session.node new.node before now
     s = subst (λ (n : Node). Steps first machine event answer session.node n before now) (sym same) steps
 
     mark_here : mark ≡ mark_of done (world s.new now faults_now)
@@ -119,7 +137,7 @@ module _ (first : Past) (machine : Machine) (before : Past) (faults : ℕ) (sess
     }
 
   module _ (steps : Steps first machine machines.end answer session.node node before now) where
-    abbrev e : Steps first machine machines.end answer session.node new.node before now
+    abbrev pub e : Steps first machine machines.end answer session.node new.node before now
     e = s machines.end steps
 
     abbrev left : List Mark
@@ -129,71 +147,71 @@ module _ (first : Past) (machine : Machine) (before : Past) (faults : ℕ) (sess
         → Ended first (world machine before faults) done end session new now faults_now
     ended end how marked = record { answer = answer; steps = e; later = later; rose = rose; answered = answered; how = how; marked = marked }
 
-    all_marked : (end : Status) → new.marks.items ≡ session.marks.items ++ left → MarksEnd end left session.marks.items new.marks.items
-    all_marked status.Memory more = inr more
-    all_marked end more = more
-
     -- the mark was taken, or memory was wanting
     abbrev pub IsMarked : Status → Status → Type 0
     IsMarked good end = (end ≡ good) × (new.marks.items ≡ session.marks.items ++ mark ∷ [])
         ⊎ ((end ≡ status.Memory) × (new.marks.items ≡ session.marks.items))
 
-    wanting : (answer : Answer) → EndsAs answer e.new status.Memory
-    wanting stopped = tt
-    wanting (fault name) = tt
-    wanting is_down = tt
-    wanting other = tt
+    -- by another reply, or without its mark
+    pub ended_wanting : (end : Status) → end ≡ status.Memory → EndsAs answer e.new status.Memory
+        → new.marks.items ≡ session.marks.items
+        → Ended first (world machine before faults) done end session new now faults_now
+    ended_wanting end is how none =
+        ended end (subst (EndsAs answer e.new) (sym is) how)
+        (subst (λ (x : Status). MarksEnd x left session.marks.items new.marks.items) (sym is) none)
 
     -- the stop was answered by a reply that takes a mark
-    ended_marked : (good end : Status) → IsMarked good end → EndsAs answer e.new good
+    ended_marked : (good end : Status) → IsMarked good end → EndsAs answer e.new good → EndsAs answer e.new status.Memory
         → left ≡ mark_of done (world e.new now faults_now) ∷ []
+        → (new.marks.items ≡ session.marks.items ++ left → MarksEnd good left session.marks.items new.marks.items)
         → Ended first (world machine before faults) done end session new now faults_now
-    ended_marked good end (inl (how_ended, more)) how one =
+    ended_marked good end (inl (how_ended, more)) how wants one marks =
         let all : new.marks.items ≡ session.marks.items ++ left =
         more ∙ ap (λ (m : Mark). session.marks.items ++ m ∷ []) (mark_here machines.end steps)
         ∙ ap (λ xs. session.marks.items ++ xs) (sym one) in
-        ended end (subst (EndsAs answer e.new) (sym how_ended) how) (all_marked end all)
-    ended_marked good end (inr (how_ended, none)) how one =
-        ended end (subst (EndsAs answer e.new) (sym how_ended) (wanting answer))
-        (subst (λ (x : Status). MarksEnd x left session.marks.items new.marks.items) (sym how_ended) (inl none))
+        ended end (subst (EndsAs answer e.new) (sym how_ended) how)
+        (subst (λ (x : Status). MarksEnd x left session.marks.items new.marks.items) (sym how_ended) (marks all))
+    ended_marked good end (inr (how_ended, none)) how wants one marks = ended_wanting end how_ended wants none
 
     pub ended_stopped : (end : Status) → answer ≡ stopped → IsMarked status.Done end
         → Ended first (world machine before faults) done end session new now faults_now
     ended_stopped end stop marked =
         ended_marked status.Done end marked (subst (λ (a : Answer). EndsAs a e.new status.Done) (sym stop) tt)
-        (ap (λ (a : Answer). mark_if machines.end a (mark_of done (world e.new now faults_now))) stop)
+        (subst (λ (a : Answer). EndsAs a e.new status.Memory) (sym stop) tt)
+        (ap (λ (a : Answer). mark_if machines.end a (mark_of done (world e.new now faults_now))) stop) (λ all. all)
 
     pub ended_fault : (end : Status) (name : List ℕ) → answer ≡ fault name → IsMarked status.DiskFault end
         → Ended first (world machine before faults) done end session new now faults_now
     ended_fault end name failed marked =
         ended_marked status.DiskFault end marked (subst (λ (a : Answer). EndsAs a e.new status.DiskFault) (sym failed) tt)
-        (ap (λ (a : Answer). mark_if machines.end a (mark_of done (world e.new now faults_now))) failed)
-
-    -- by another reply, which takes none
-    pub ended_wanting : (end : Status) → end ≡ status.Memory → new.marks.items ≡ session.marks.items
-        → Ended first (world machine before faults) done end session new now faults_now
-    ended_wanting end wants none =
-        ended end (subst (EndsAs answer e.new) (sym wants) (wanting answer))
-        (subst (λ (x : Status). MarksEnd x left session.marks.items new.marks.items) (sym wants) (inl none))
+        (subst (λ (a : Answer). EndsAs a e.new status.Memory) (sym failed) tt)
+        (ap (λ (a : Answer). mark_if machines.end a (mark_of done (world e.new now faults_now))) failed) (λ all. all)
 
     -- the node was down
     pub ended_down : (end : Status) → answer ≡ is_down → end ≡ status_of_down node.state → new.marks.items ≡ session.marks.items
         → Ended first (world machine before faults) done end session new now faults_now
     ended_down end down is_end none = by new.node.state e.shows.life (is_end ∙ ap (λ (n : Node). status_of_down n.state) (sym same))
       where
-        how_down : (why : Status) → EndsAs is_down e.new why → end ≡ why
+        all : new.marks.items ≡ session.marks.items ++ left
+        all = none ∙ sym (append-nil session.marks.items)
+            ∙ ap (λ (a : Answer). session.marks.items ++ mark_if machines.end a (mark_of done (world e.new now faults_now))) (sym down)
+
+        how_down : (why : Status) → EndsAs is_down e.new why → MarksEnd why left session.marks.items new.marks.items → end ≡ why
             → Ended first (world machine before faults) done end session new now faults_now
-        how_down why how same_end =
+        how_down why how marks same_end =
             ended end (subst (EndsAs answer e.new) (sym same_end) (subst (λ (a : Answer). EndsAs a e.new why) (sym down) how))
-            (all_marked end (none ∙ sym (append-nil session.marks.items)
-            ∙ ap (λ (a : Answer). session.marks.items ++ mark_if machines.end a (mark_of done (world e.new now faults_now)))
-            (sym down)))
+            (subst (λ (x : Status). MarksEnd x left session.marks.items new.marks.items) (sym same_end) marks)
+
+        wanting : (life : Life) → e.new.life ≡ life → (life ≡ halted → ⊥) → (life ≡ faulted → ⊥) → end ≡ status.Memory
+            → Ended first (world machine before faults) done end session new now faults_now
+        wanting life is no_halt no_fault same_end =
+            how_down status.Memory ((λ h. no_halt (sym is ∙ h)), (λ h. no_fault (sym is ∙ h))) none same_end
 
         by : (state : State) → ShowsLife state now e.new e.shows.earlier → end ≡ status_of_down state
             → Ended first (world machine before faults) done end session new now faults_now
-        by Unstarted life same_end = how_down status.Memory tt same_end
-        by (Up live) life same_end = how_down status.Memory tt same_end
-        by Starved life same_end = how_down status.Memory tt same_end
-        by Ruined life same_end = how_down status.Memory tt same_end
-        by Stopped life same_end = how_down status.Done life.0 same_end
-        by Faulted life same_end = how_down status.DiskFault life same_end
+        by Unstarted life same_end = wanting unstarted life (λ h. cc) (λ h. cc) same_end
+        by (Up live) life same_end = wanting running life.running (λ h. cc) (λ h. cc) same_end
+        by Starved life same_end = wanting starved life (λ h. cc) (λ h. cc) same_end
+        by Ruined life same_end = wanting ruined life (λ h. cc) (λ h. cc) same_end
+        by Stopped life same_end = how_down status.Done life.0 all same_end
+        by Faulted life same_end = how_down status.DiskFault life all same_end

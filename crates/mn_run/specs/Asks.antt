@@ -2,7 +2,7 @@
 use Rattle.std.specs.Prelude.{◌≡◌, ℕ, ◌+◌, ◌≤◌, ◌⊎◌, ◌++◌, List, [], ◌∷◌, Some, None, Result, Ok, Err, IsErrOf}
 use Rattle.file_trait.specs.Counts.{Rose}
 use Rattle.mn_run.specs.Script.{Plan, behind}
-use Rattle.mn_run.specs.Seen.{event, AsksRow}
+use Rattle.mn_run.specs.Seen.{event}
 use Rattle.mn_run.specs.declared.asks.Ask.{Ask}
 use Rattle.mn_run.specs.declared.asks.Ask.TheVariants as ask
 use Rattle.mn_run.specs.declared.lines.LineErr.{LineErr}
@@ -17,11 +17,6 @@ Asks (Ok ask.Blank) old new = old ≡ new
 Asks (Ok (ask.Do line)) old new = old ≡ behind (event line ∷ []) new
 Asks (Err (status.TooLong n)) old new = old ≡ record { commands = []; over = Some n }
 Asks (Err other) old new = Unit {0}
-
--- what is put is a record of the table
-abbrev pub AsksRowAt : Ask → Type 0
-AsksRowAt (ask.Do line) = AsksRow line
-AsksRowAt other = Unit {0}
 
 -- a line was taken, but at the end
 abbrev pub Goes : Ask → ℕ → ℕ → ℕ → ℕ → Type 0

@@ -1,6 +1,5 @@
 pub mod Asks
 pub mod Commands
-pub mod Grammar
 pub mod Lines
 pub mod Reading
 pub mod Replies

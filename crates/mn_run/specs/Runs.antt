@@ -80,6 +80,15 @@ abbrev pub last_line : List ℕ → List Act → List ℕ
 last_line line [] = line
 last_line line (act ∷ acts) = last_line (line_of act.event act.answer) acts
 
+-- what holds of the last of these acts, where there is one
+abbrev pub OfLast : (Act → Type 0) → Act → List Act → Type 0
+OfLast Fact act [] = Fact act
+OfLast Fact act (next ∷ acts) = OfLast Fact next acts
+
+abbrev pub IfLast : (Act → Type 0) → List Act → Type 0
+IfLast Fact [] = Unit {0}
+IfLast Fact (act ∷ acts) = OfLast Fact act acts
+
 -- ---- marks
 
 -- the counts of a world, where so many commands were answered
@@ -157,6 +166,16 @@ EndsPrinted status.WriteFault unprinted = Unit {0}
 EndsPrinted status.Memory unprinted = Unit {0}
 EndsPrinted other unprinted = unprinted ≡ []
 
+-- What is so of the last act of a run that memory ended. At the script's end the mark of it found no room, or the machine
+-- was down already, and neither stopped nor for a fault.
+abbrev pub WantsAt : Type 0 → Event → Answer → Machine → Type 0
+WantsAt AllMarked machine.end is_down last = (last.life ≡ halted → ⊥) × (last.life ≡ faulted → ⊥)
+WantsAt AllMarked machine.end answer last = AllMarked → ⊥
+WantsAt AllMarked event answer last = Unit {0}
+
+abbrev pub HasWanted : List Act → List Mark → Type 0
+HasWanted acts marks = IfLast (λ act. WantsAt (marks_of acts ≡ marks) act.event act.answer act.after.machine) acts
+
 -- The machine went through these acts, and all marks were taken but at most the last. Behind them the files read as it
 -- says, and at each moment a crash leaves what it says. A closed log may be trusted at each moment, where it could be
 -- at first. Nothing is done to a directory without a meaning.
@@ -201,6 +220,7 @@ pub record Ran (script_told sink_told : Bool) (script : List ℕ) (end : Status)
   pub acted : Acted end old acts now faults_now marks
   pub asked : IsTrue script_told → IsAsked end script acts
   pub printed : IsTrue sink_told → ArePrinted end acts old_out new_out []
+  pub wanted : end ≡ status.Memory → HasWanted acts marks
 
 -- where the log of a directory with a meaning is closed, a crash is to leave all of it
 abbrev pub IsTrusted : Meaning → Past → Type 0

@@ -10,7 +10,7 @@ use Rattle.mn_node.specs.declared.node.Node.{Node}
 use Rattle.mn_node.specs.declared.node.State.TheVariants.{Unstarted}
 use Rattle.mn_run.specs.Asks.{IsOfFlushing, Passes}
 use Rattle.mn_run.specs.Replies.{text_of}
-use Rattle.mn_run.specs.Runs.{World, Act, Acted, IsAsked, ArePrinted, Ran, mark_of, mark_if}
+use Rattle.mn_run.specs.Runs.{World, Act, IfLast, Acted, IsAsked, ArePrinted, Ran, mark_of, mark_if}
 use Rattle.mn_run.specs.declared.outcome.Mark.{Mark}
 use Rattle.mn_run.specs.declared.outcome.Status.{Status}
 use Rattle.mn_run.specs.declared.outcome.Status.TheVariants as status
@@ -69,12 +69,13 @@ EndsAs stopped new status.Done = Unit {0}
 EndsAs (fault name) new status.DiskFault = Unit {0}
 EndsAs is_down new status.Done = new.life ≡ halted
 EndsAs is_down new status.DiskFault = new.life ≡ faulted
+EndsAs is_down new status.Memory = (new.life ≡ halted → ⊥) × (new.life ≡ faulted → ⊥)
 EndsAs answer new status.Memory = Unit {0}
 EndsAs answer new other = ⊥
 
--- the mark of the script's end was taken, or memory was wanting
+-- the mark of the script's end was taken, but where memory ran out
 abbrev pub MarksEnd : Status → List Mark → List Mark → List Mark → Type 0
-MarksEnd status.Memory left old new = (new ≡ old) ⊎ (new ≡ old ++ left)
+MarksEnd status.Memory left old new = new ≡ old
 MarksEnd other left old new = new ≡ old ++ left
 
 pub record Ended (first : Past) (old : World) (done : ℕ) (end : Status) (session new : Session) (now : Past)
@@ -97,6 +98,10 @@ pub record Halts (script_told sink_told : Bool) (script : List ℕ) (end : Statu
   pub asked : IsTrue script_told → IsAsked end script acts
   pub printed : IsTrue sink_told → ArePrinted end acts old_out new_out gathered
 
+-- the script's end is not among these acts
+abbrev pub AreUnended : List Act → Type 0
+AreUnended = IfLast (λ act. act.event ≡ machine.end → ⊥)
+
 -- the status, whether the script's end gave it or it came before
 abbrev pub end_of : Result Status Status → Status
 end_of (Ok end) = end
@@ -109,7 +114,8 @@ abbrev pub Gave : Bool → Bool → List ℕ → Result Status Status → World 
 Gave script_told sink_told script (Ok end) old now faults old_out new_out gathered marks =
     Ran script_told sink_told script end old now faults old_out new_out marks
 Gave script_told sink_told script (Err end) old now faults old_out new_out gathered marks =
-    Halts script_told sink_told script end old now faults old_out new_out gathered marks
+    (halts : Halts script_told sink_told script end old now faults old_out new_out gathered marks)
+    × AreUnended halts.acts
 
 -- What was gathered was written, and the run ends as it was to end, or the sink gave up.
 abbrev pub Finished : Status → Status → List ℕ → List ℕ → List ℕ → Type 0

@@ -3,10 +3,10 @@
 ghost use Rattle.std.specs.Prelude.{◌≡◌, ◌⊎◌, ◌≤◌, ◌+◌, ◌++◌, [], ◌∷◌, length, Ok, IsTrue, IfOk, IfErr};
 ghost use Rattle.mn_run.specs.Lines.{lines_of};
 ghost use Rattle.mn_run.specs.Script.{plan_from};
-ghost use Rattle.mn_run.specs.Asks.{Asks, AsksRowAt, Goes, Flushes, IsKeptOrGone, Causes, IsOfReading};
+ghost use Rattle.mn_run.specs.Asks.{Asks, Goes, Flushes, IsKeptOrGone, Causes, IsOfReading};
 
 use crate::Status;
-use crate::commands::{Line, read_command};
+use crate::commands::{Line, read_line};
 use crate::lines::{LineErr, Lines, MOST_LINE};
 use file_trait::{Sink, Source};
 use std::alloc::Global;
@@ -50,7 +50,6 @@ pub fn next_ask<S: Source, K: Sink>(
     ensures asks { IsTrue S.tells → Asks result
         (plan_from place.old.lines place.old.commands (lines_of (lines.old ++ S.left script.old)))
         (plan_from place.new.lines place.new.commands (lines_of (lines.new ++ S.left script.new))) }
-    ensures row { IfOk result AsksRowAt }
     ensures cause { Causes Status.ReadFault (S.faults script.old) (S.faults script.new) result }
     ensures printed { IsTrue K.tells
         → Flushes result text.old.items text.new.items (K.written out.old) (K.written out.new) }
@@ -82,7 +81,6 @@ fn ask_of(alloc: Global, line: &[u8], place: &mut Place) -> Result<Ask, Status>
     ensures asks { (later : _) → Asks result
         (plan_from place.old.lines place.old.commands (line.now ∷ later))
         (plan_from place.new.lines place.new.commands later) }
-    ensures row { IfOk result AsksRowAt }
     ensures only { IfErr result IsOfReading }
     ensures read { result ≡ Err Status.ReadFault → ⊥ }
     ensures write { result ≡ Err Status.WriteFault → ⊥ }
@@ -95,7 +93,7 @@ fn ask_of(alloc: Global, line: &[u8], place: &mut Place) -> Result<Ask, Status>
     if place.lines == MOST_LINES {
         return Err(Status::TooLong(number));
     }
-    match read_command(alloc, line) {
+    match read_line(alloc, line) {
         Ok(Some(asked)) => {
             if place.commands == MOST_COMMANDS {
                 return Err(Status::TooLong(number));

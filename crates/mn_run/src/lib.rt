@@ -13,8 +13,8 @@ mod session;
 mod terms;
 mod words;
 
-pub use commands::line_laws;
 pub use mn_node::directory_law;
+pub use mn_script::{command_laws, line_laws};
 pub use outcome::{Mark, Outcome, Status};
 pub use running::run;
 

@@ -4,18 +4,18 @@ ghost use Rattle.std.specs.Prelude.{◌≡◌, ◌++◌, OnOk, OnErr, IfOk, map,
 ghost use Rattle.term_core.specs.View.{tree_of, forest_of};
 ghost use Rattle.term_text.specs.Appends.{Appends};
 ghost use Rattle.term_text.specs.Printing.{comma_before, printed, trees_text};
-ghost use Rattle.mn_node.specs.Machine.{fault, found};
+ghost use Rattle.mn_node.specs.Machine.{fault, found, no_table, bad_record};
 ghost use Rattle.mn_node.specs.Seen.{answer};
 ghost use Rattle.mn_run.specs.Replies as replies;
 ghost use Rattle.mn_run.specs.Replies.{text_of};
 
-use crate::terms::atom;
+use crate::terms::{atom, copied, named};
 use file_trait::FileName;
 use itoa::Buffer;
 use mn_node::Reply;
 use sqlite_items::Items;
 use std::alloc::{AllocError, Global};
-use term_core::Term;
+use term_core::{Atom, Term};
 use term_text::print_term;
 
 /// Adds the reply's line at the end of `out`, and nothing for damage. An error leaves `out` as it was.
@@ -43,6 +43,8 @@ fn put_reply(reply: &Reply, out: &mut Vec<u8>) -> Result<(), AllocError>
         Reply::Badarg(at) => put_count(b"{badarg,", *at, out),
         Reply::Synced => out.extend_from_slice(b"ok\n"),
         Reply::Stopped => out.extend_from_slice(b"stopped\n"),
+        Reply::NoTable(name) => put_no_table(name, out),
+        Reply::BadRecord(item) => put_bad_record(item, out),
         Reply::Down => out.extend_from_slice(b"{error,down}\n"),
         Reply::Up => out.extend_from_slice(b"{error,up}\n"),
         Reply::Memory => out.extend_from_slice(b"{error,memory}\n"),
@@ -97,6 +99,42 @@ fn put_fault(name: FileName, out: &mut Vec<u8>) -> Result<(), AllocError>
     out.extend_from_slice(b"\n")
 }
 
+/// The line of a refusal, `{aborted,{no_exists,Name}}`.
+fn put_no_table(name: &Atom, out: &mut Vec<u8>) -> Result<(), AllocError>
+    ensures { Appends result out.old.items out.new.items (text_of (no_table name.now)) }
+{
+    let alloc = *out.allocator();
+    let refusal = missing(alloc, name)?;
+    put_term(&refusal, out)?;
+    out.extend_from_slice(b"\n")
+}
+
+/// The line of a refusal, `{aborted,{bad_type,Record}}`.
+fn put_bad_record(item: &Term, out: &mut Vec<u8>) -> Result<(), AllocError>
+    ensures { Appends result out.old.items out.new.items (text_of (bad_record (tree_of item.now))) }
+{
+    let alloc = *out.allocator();
+    let refusal = refusal(alloc, "bad_type", copied(alloc, item)?)?;
+    put_term(&refusal, out)?;
+    out.extend_from_slice(b"\n")
+}
+
+/// `{aborted,{no_exists,Name}}`
+fn missing(alloc: Global, name: &Atom) -> Result<Term, AllocError>
+    ensures { IfOk result (λ term. tree_of term ≡ replies.missing name.now) }
+{
+    let name = named(alloc, name)?;
+    refusal(alloc, "no_exists", name)
+}
+
+/// `{aborted,{Word,Value}}`
+fn refusal(alloc: Global, word: &str, value: Term) -> Result<Term, AllocError>
+    ensures { IfOk result (λ term. tree_of term ≡ replies.aborted (replies.tagged word.now (tree_of value))) }
+{
+    let reason = tagged(alloc, word, value)?;
+    tagged(alloc, "aborted", reason)
+}
+
 /// `{error,{file,Name}}`. The bytes of a name are ASCII, so that only memory may be wanting.
 fn file_error(alloc: Global, name: FileName) -> Result<Term, AllocError>
     ensures { IfOk result (λ term. tree_of term ≡ replies.file_error name) }
@@ -135,29 +173,12 @@ mod tests {
     use std::test::Fail;
 
     #[test]
-    fn replies_have_their_lines(rt: HostRuntime) -> Result<(), Fail> {
-        let alloc = rt.alloc();
-        let mut out = Vec::new(alloc);
-        for reply in [
-            Reply::Started(12),
-            Reply::Done,
-            Reply::Badarg(0),
-            Reply::Stopped,
-            Reply::Memory,
-            Reply::Synced,
-            Reply::Down,
-            Reply::Up,
-            Reply::Fault(FileName::new(b"LATEST.LOG").ok_or("name")?),
-            Reply::Fault(FileName::new(b"t").ok_or("name")?),
-            Reply::Damaged(FileName::new(b"LATEST.LOG").ok_or("name")?, 0),
-            Reply::Found(Items::new(alloc)),
-        ] {
-            print_reply(&reply, &mut out)?;
-        }
-        let lines =
-            "{started,12}\n{atomic,ok}\n{badarg,0}\nstopped\n{error,memory}\nok\n{error,down}\n{error,up}\n\
-            {error,{file,'LATEST.LOG'}}\n{error,{file,t}}\n[]\n";
-        assert_eq!(rt; out.as_slice(), lines.as_bytes());
+    fn replies_that_no_script_shows(rt: HostRuntime) -> Result<(), Fail> {
+        let mut out = Vec::new(rt.alloc());
+        let log = FileName::new(b"LATEST.LOG").ok_or("name")?;
+        print_reply(&Reply::Memory, &mut out)?;
+        print_reply(&Reply::Damaged(log, 0), &mut out)?;
+        assert_eq!(rt; out.as_slice(), b"{error,memory}\n".as_slice());
         Ok(())
     }
 

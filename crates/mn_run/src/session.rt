@@ -11,7 +11,6 @@ ghost use Rattle.mn_node.specs.Machine.{Machine};
 ghost use Rattle.mn_node.specs.Seen.{answer as answer_of};
 ghost use Rattle.mn_run.specs.Replies.{text_of};
 ghost use Rattle.mn_run.specs.Seen as seen;
-ghost use Rattle.mn_run.specs.Seen.{AsksRow};
 ghost use Rattle.mn_run.specs.Sessions.{Told, Served, Ended, IsOfAnswering, IsOfEnding, new_node, node_mark};
 ghost use Rattle.mn_run.specs.Statuses.{status_of_down};
 
@@ -59,7 +58,6 @@ impl Session {
     ) -> Result<(), Status>
         requires whole { IsWhole self.old.node.state }
         requires log { IsTrue D.tells → HasLogOf self.old.node.state (D.past disk.old) }
-        requires row { AsksRow line }
         requires few { (n : ℕ) × (n < 2 ^ 62) × IsFew self.old.node n }
         ensures served { IsTrue D.tells
             → (first : Past) (machine : Machine) → Shows first self.old.node (D.past disk.old) machine
@@ -139,7 +137,6 @@ impl Session {
 fn answer<D: Disk>(node: &mut Node, alloc: Global, disk: &mut D, line: Line) -> Reply
     requires whole { IsWhole node.old.state }
     requires log { IsTrue D.tells → HasLogOf node.old.state (D.past disk.old) }
-    requires row { AsksRow line }
     requires few { (n : ℕ) × (n < 2 ^ 62) × IsFew node.old n }
     ensures steps { IsTrue D.tells → (first : Past) (old : Machine) → Shows first node.old (D.past disk.old) old
         → Steps first old (seen.event line) (answer_of result) node.old node.new (D.past disk.old)

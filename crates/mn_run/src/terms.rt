@@ -16,3 +16,20 @@ pub fn atom(alloc: Global, text: &str) -> Result<Term, AllocError>
         Err(_) => Err(AllocError),
     }
 }
+
+/// The atom of a name.
+pub fn named(alloc: Global, name: &Atom) -> Result<Term, AllocError>
+    ensures { IfOk result (λ term. tree_of term ≡ trees.atom name.now) }
+{
+    match name.try_clone(alloc) {
+        Ok(copy) => Ok(Term::Atom(copy)),
+        Err(_) => Err(AllocError),
+    }
+}
+
+/// A term that equals this one.
+pub fn copied(alloc: Global, term: &Term) -> Result<Term, AllocError>
+    ensures { IfOk result (λ copy. copy ≡ term.now) }
+{
+    term.try_clone(alloc).map_err(|_| AllocError)
+}

@@ -1,7 +1,7 @@
 //! A reader of lines over a table of forms.
 
 ghost use Rattle.std.specs.Prelude.{◌≡◌, ◌≤◌, ◌<◌, length, List, [], ℕ, map, codes, true, false};
-ghost use Rattle.std.specs.List.{list_all, prefix_len, position_or_len};
+ghost use Rattle.std.specs.List.{list_all, position_or_len};
 ghost use Rattle.std.specs.Str.{bytes_eq};
 ghost use Rattle.term_core.specs.View.{tree_of};
 ghost use Rattle.term_text.specs.Grammar.{begins, is_blank, is_name_byte};
@@ -15,7 +15,7 @@ use crate::forms::{Form, Kind};
 use sqlite_items::Items;
 use std::alloc::{AllocError, Global};
 use term_core::Term;
-use term_text::{TextErr, read_term};
+use term_text::{TextErr, is_blank, read_term, unblanked};
 
 /// Why a line is no command's.
 #[derive(Clone, Copy, Debug, PartialEq, Eq)]
@@ -102,29 +102,6 @@ fn word_len(line: &[u8]) -> usize
     ensures within { result ≤ length line.now }
 {
     line.iter().take_while(|byte| !is_blank(**byte)).count()
-}
-
-/// The bytes behind the blanks in front.
-#[tactic(auto, unfolding(term_text::specs::Reading::unblanked))]
-fn unblanked(bytes: &[u8]) -> &[u8]
-    ensures { result.now ≡ unblanked bytes.now }
-{
-    let (_, rest) = bytes.split_at(blanks(bytes));
-    rest
-}
-
-#[tactic(auto, using(crate::proofs::Blanks::prefix_within))]
-fn blanks(bytes: &[u8]) -> usize
-    ensures count { result ≡ prefix_len is_blank bytes.now }
-    ensures within { result ≤ length bytes.now }
-{
-    bytes.iter().take_while(|byte| is_blank(**byte)).count()
-}
-
-fn is_blank(byte: u8) -> bool
-    ensures { result ≡ is_blank byte }
-{
-    byte == b' ' || byte == b'\t'
 }
 
 fn begins_blank(line: &[u8]) -> bool

@@ -9,6 +9,7 @@ ghost use Rattle.std.specs.Hash as fed;
 ghost use Rattle.term_core.specs.Hashed.{alike};
 
 use crate::error::TermErr;
+use crate::text::Text;
 use std::alloc::Global;
 use std::cmp::Ordering;
 use std::hash::{Hash, Hasher};
@@ -22,18 +23,18 @@ const MOST_CHARACTERS: usize = 255;
 /// Atoms are in the order of their characters, which is that of their bytes.
 #[derive(Drop)]
 pub struct Atom {
-    text: String,
+    text: Text,
 }
 
 impl Model for Atom {
-    ghost use Rattle.std.specs.Prelude.{ℕ, ◌≤◌, List, length, string_bytes};
+    ghost use Rattle.std.specs.Prelude.{ℕ, ◌≤◌, List, length};
     ghost use Rattle.std.specs.Str.{chars};
 
     ghost Value = { List ℕ };
 
-    ghost view = { λ a. string_bytes a.text };
+    ghost view = { λ a. a.text };
 
-    ghost invariant = { λ a. length (chars (string_bytes a.text)) ≤ 255 };
+    ghost invariant = { λ a. length (chars a.text) ≤ 255 };
 }
 
 impl Atom {
@@ -46,7 +47,7 @@ impl Atom {
             return Err(TermErr::AtomTooLong);
         }
         Ok(Atom {
-            text: String::from_str(alloc, text)?,
+            text: Text::from_str(alloc, text)?,
         })
     }
 
@@ -58,13 +59,21 @@ impl Atom {
         self.text.as_str()
     }
 
+    /// The bytes of the characters, which take no test of UTF-8.
+    pub fn as_bytes(&self) -> &[u8]
+        ensures bytes { result.now ≡ self.now }
+        ensures short { length (chars self.now) ≤ 255 }
+    {
+        self.text.as_bytes()
+    }
+
     /// An atom that equals this one.
     pub fn try_clone(&self, alloc: Global) -> Result<Atom, TermErr>
         ensures same { IfOk result (λ atom. atom ≡ self.now) }
         ensures only_memory { IfErr result (λ error. error ≡ TermErr.Memory) }
     {
         Ok(Atom {
-            text: String::from_str(alloc, self.text.as_str())?,
+            text: self.text.try_clone(alloc)?,
         })
     }
 }
@@ -85,7 +94,7 @@ impl PartialEq for Atom {
         ensures by_order { result ≡ eq_by_cmp (slice_cmp nat_cmp) self.now other.now }
         ensures same { IsTrue result ↔ (self.now ≡ other.now) }
     {
-        self.text() == other.text()
+        self.as_bytes() == other.as_bytes()
     }
 }
 
@@ -103,7 +112,7 @@ impl Ord for Atom {
     ghost matches_eq = { λ x y. refl };
 
     fn cmp(&self, other: &Atom) -> Ordering {
-        self.text().cmp(other.text())
+        self.as_bytes().cmp(other.as_bytes())
     }
 }
 
@@ -123,6 +132,8 @@ impl Hash for Atom {
     ghost respects_eq = { alike };
 
     fn hash<H: Hasher>(&self, state: &mut H) {
-        self.text().hash(state);
+        // As a `str` is hashed.
+        state.write(self.as_bytes());
+        state.write_u8(0xff);
     }
 }

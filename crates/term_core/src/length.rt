@@ -30,8 +30,8 @@ fn room_after(term: &Term, room: usize) -> Option<usize>
     match term {
         Term::Int(number) => room.checked_sub(number_len(*number)),
         Term::Atom(atom) => room
-            .checked_sub(front_len(2, 3, atom.text().len()))?
-            .checked_sub(atom.text().len()),
+            .checked_sub(front_len(2, 3, atom.as_bytes().len()))?
+            .checked_sub(atom.as_bytes().len()),
         Term::Tuple(items) => room_after_tuple(items.as_slice(), room),
         Term::List(items) => room_after_list(items.as_slice(), room),
         Term::Bin(bytes) => room.checked_sub(5)?.checked_sub(bytes.len()),

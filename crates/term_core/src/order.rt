@@ -63,7 +63,7 @@ fn compare(left: &Term, right: &Term) -> Ordering
         },
         Term::Atom(a) => match right {
             Term::Int(_) => Ordering::Greater,
-            Term::Atom(b) => a.text().cmp(b.text()),
+            Term::Atom(b) => a.cmp(b),
             Term::Tuple(_) | Term::List(_) | Term::Bin(_) => Ordering::Less,
         },
         Term::Tuple(a) => match right {

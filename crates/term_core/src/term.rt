@@ -24,6 +24,9 @@ pub enum Term {
     Bin(Items<u8>),
 }
 
+// A database keeps many terms, so none is bigger than a number of 128 bits and a tag.
+const _: () = prove!(size_of::<Term>() == 32);
+
 impl Term {
     /// The second element of a tuple that has one.
     pub fn key(&self) -> Option<&Term>
@@ -63,9 +66,10 @@ fn copy_all(alloc: Global, items: &Items<Term>) -> Result<Items<Term>, TermErr>
     ensures same { IfOk result (λ copies. copies ≡ items.now) }
     ensures only_memory { IfErr result (λ error. error ≡ TermErr.Memory) }
 {
-    let mut copies = Items::new(alloc);
-    for item in items.as_slice() {
-        copies.push(copy(alloc, item)?)?;
+    let items = items.as_slice();
+    let mut copies = Vec::with_capacity(alloc, items.len())?;
+    for item in items {
+        copies.push_reserved(copy(alloc, item)?);
     }
-    Ok(copies)
+    Ok(Items::from_vec(copies))
 }

@@ -81,6 +81,21 @@ fn a_long_atom(rt: HostRuntime) -> Result<(), Fail> {
     Ok(())
 }
 
+// Up to 22 bytes lie in the atom itself, and more behind it.
+#[test]
+fn atoms_at_the_end_of_their_room(rt: HostRuntime) -> Result<(), Fail> {
+    let mut before = Atom::new(rt.alloc(), "")?;
+    for text in ["üüüüüüüüüü", "üüüüüüüüüüü", "üüüüüüüüüüüa", "üüüüüüüüüüüü"] {
+        let atom = Atom::new(rt.alloc(), text)?;
+        let copied = atom.try_clone(rt.alloc())?;
+        assert_eq!(rt; copied.text(), text);
+        assert_eq!(rt; copied.as_bytes(), text.as_bytes());
+        assert!(rt; copied == atom && before < atom);
+        before = copied;
+    }
+    Ok(())
+}
+
 // The bytes of tags, counts and contents, counted by hand.
 #[test]
 fn lengths_of_written_texts(rt: HostRuntime) -> Result<(), Fail> {

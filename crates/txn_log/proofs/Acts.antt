@@ -63,8 +63,13 @@ all_more N M (op ∷ ops) f h = (concerns_more N M op f h.0, all_more N M ops f 
 pub touches_more : (N M : List ℕ → Type 0) (old new : Past) → ((name : List ℕ) → N name → M name) → Touches N old new → Touches M old new
 touches_more N M old new f t = record { ops = t.ops; grown = t.grown; all = all_more N M t.ops f t.all }
 
-pub touches_log : (old new : Past) (file : List ℕ) → file ≡ latest → Touches (λ n. n ≡ file) old new → Touches IsLogName old new
-touches_log old new file is t = touches_more (λ n. n ≡ file) IsLogName old new (λ name at. inl (at ∙ is)) t
+pub touches_latest : (old new : Past) (file : List ℕ) → file ≡ latest → Touches (λ n. n ≡ file) old new
+    → Touches (λ n. n ≡ latest) old new
+touches_latest old new file is t = touches_more (λ n. n ≡ file) (λ n. n ≡ latest) old new (λ name at. at ∙ is) t
+
+-- its file is one of the log's
+pub touches_log : (old new : Past) → Touches (λ n. n ≡ latest) old new → Touches IsLogName old new
+touches_log old new t = touches_more (λ n. n ≡ latest) IsLogName old new (λ name at. inl at) t
 
 -- ---- the handle
 

@@ -7,6 +7,7 @@ ghost use Rattle.file_trait.specs.Moments.{Moments};
 ghost use Rattle.file_trait.specs.Touched.{Touches};
 ghost use Rattle.disk_logs.specs.Crash.{IsSound};
 ghost use Rattle.disk_logs.specs.Errors.{OnlyFile, OnlyFileOrMemory, LogCause};
+ghost use Rattle.disk_logs.specs.Calls.{LogCalls};
 ghost use Rattle.disk_logs.specs.Logs.{IsLog};
 ghost use Rattle.log_items.specs.Items.{log_bytes, AreContents};
 ghost use Rattle.db_model.specs.Commits.{CommitRecord};
@@ -79,11 +80,7 @@ impl TxnLog {
         ensures trusted { (items : List (List ℕ)) → IsTrue D.tells → AreContents items
             → reads (D.past disk.old) latest_name ≡ Some (log_bytes true items)
             → IsOk result × (disk.new ≡ disk.old) }
-        ensures touches { IsTrue D.tells → Touches IsLogName (D.past disk.old) (D.past disk.new) }
-        ensures named { (name : List ℕ) → IsErrOf result (LogErr.File name) → IsLogName name }
-        ensures only { OnlyFileOrMemory result }
-        ensures time { D.moment disk.old ≤ D.moment disk.new }
-        ensures cause { LogCause (D.faults disk.old) (D.faults disk.new) (D.blamed disk.new) result }
+        ensures calls { LogCalls D.Disk disk.old disk.new IsLogName OnlyFileOrMemory result }
     {
         match read {
             Some(file) => resumed(disk, file),
@@ -124,15 +121,11 @@ impl TxnLog {
         ensures sound { (commits : List CommitRecord) (synced : ℕ) → IsTrue D.tells
             → TxnStands (D.past disk.old) self.old commits synced
             → Moments (λ past. IsSound past latest_name) (D.past disk.old) (D.past disk.new) }
-        ensures touches { IsTrue D.tells → Touches IsLogName (D.past disk.old) (D.past disk.new) }
-        ensures named { (name : List ℕ) → IsErrOf result (LogErr.File name) → name ≡ latest_name }
-        ensures only { OnlyFileOrMemory result }
-        ensures time { D.moment disk.old ≤ D.moment disk.new }
+        ensures calls { LogCalls D.Disk disk.old disk.new (λ n. n ≡ latest_name) OnlyFileOrMemory result }
 
         // It is one write, and three calls of the disk where the log is closed.
         ensures few { D.moment disk.new ≤ D.moment disk.old + 3 }
         ensures one { self.old.closed ≡ false → D.moment disk.new ≤ D.moment disk.old + 1 }
-        ensures cause { LogCause (D.faults disk.old) (D.faults disk.new) (D.blamed disk.new) result }
     {
         match self.log.append(disk, item.bytes()) {
             Ok(()) => {}
@@ -159,12 +152,8 @@ impl TxnLog {
         ensures sound { (commits : List CommitRecord) (synced : ℕ) → IsTrue D.tells
             → TxnStands (D.past disk.old) self.old commits synced
             → Moments (λ past. IsSound past latest_name) (D.past disk.old) (D.past disk.new) }
-        ensures touches { IsTrue D.tells → Touches IsLogName (D.past disk.old) (D.past disk.new) }
-        ensures named { (name : List ℕ) → IsErrOf result (LogErr.File name) → name ≡ latest_name }
-        ensures only { OnlyFile result }
-        ensures time { D.moment disk.old ≤ D.moment disk.new }
+        ensures calls { LogCalls D.Disk disk.old disk.new (λ n. n ≡ latest_name) OnlyFile result }
         ensures few { D.moment disk.new ≤ D.moment disk.old + 1 }
-        ensures cause { LogCause (D.faults disk.old) (D.faults disk.new) (D.blamed disk.new) result }
     {
         self.log.sync(disk)
     }
@@ -195,12 +184,8 @@ impl TxnLog {
         ensures durable { (commits : List CommitRecord) (synced : ℕ) → IsTrue D.tells
             → TxnStands (D.past disk.old) self.old commits synced → self.old.closed ≡ false
             → OnOk result (IsDurable (D.past disk.new) latest_name) }
-        ensures touches { IsTrue D.tells → Touches IsLogName (D.past disk.old) (D.past disk.new) }
-        ensures named { (name : List ℕ) → IsErrOf result (LogErr.File name) → name ≡ latest_name }
-        ensures only { OnlyFileOrMemory result }
-        ensures time { D.moment disk.old ≤ D.moment disk.new }
+        ensures calls { LogCalls D.Disk disk.old disk.new (λ n. n ≡ latest_name) OnlyFileOrMemory result }
         ensures few { D.moment disk.new ≤ D.moment disk.old + 3 }
-        ensures cause { LogCause (D.faults disk.old) (D.faults disk.new) (D.blamed disk.new) result }
     {
         self.log.close(disk)
     }

@@ -1,8 +1,9 @@
 -- What a command does that is tried on an open log and its table.
-use Rattle.std.specs.Prelude.{◌≡◌, ◌⊎◌, ℕ, ◌+◌, Bool, true, false, IsTrue, if◌then◌else◌, List, [], ◌++◌, length, is_some, Result, Ok, Err}
+use Rattle.std.specs.Prelude.{◌≡◌, ◌⊎◌, ℕ, ◌+◌, ◌≤◌, Bool, true, false, IsTrue, if◌then◌else◌, List, [], ◌++◌, length, is_some, Result, Ok, Err, IfOk, IsErrOf}
 use Rattle.file_trait.specs.DiskModel.{Past, reads}
 use Rattle.file_trait.specs.Moments.{Moments}
 use Rattle.file_trait.specs.Touched.{Touches}
+use Rattle.file_trait.specs.declared.disk.Disk.{Ghosts}
 use Rattle.disk_logs.specs.Crash.{IsSound}
 use Rattle.disk_logs.specs.Errors.{OnlyFileOrMemory}
 use Rattle.disk_logs.specs.Logs.{IsLog}
@@ -10,6 +11,7 @@ use Rattle.disk_logs.specs.declared.error.LogErr.{LogErr}
 use Rattle.db_model.specs.Commits.{CommitRecord}
 use Rattle.txn_log.specs.Logs as logs
 use Rattle.txn_log.specs.Logs.{Reads, handle, IsLogName}
+use Rattle.mn_node.specs.Calls.{Calls}
 use Rattle.mn_node.specs.Machine.{Effect, Answer, entries_of, goes_to_disk, is_no_memory, is_fault, no_memory, fault, is_down}
 use Rattle.mn_node.specs.Meaning.{latest}
 use Rattle.mn_node.specs.Seen.{answer}
@@ -72,6 +74,17 @@ pub record IsPlain (answer : Answer) : Type 0 where
   pub fault : is_fault answer ≡ false
   pub memory : is_no_memory answer ≡ false
   pub up : answer ≡ is_down → ⊥
+
+-- What a command that is tried owes, whatever comes out of it, over a disk that tells or not.
+pub record Attempts {D : Type 0} (g : Ghosts D) (disk disk_now : D) (live live_now : Open)
+    (result : Result Done Trouble) : Type 0 where
+  pub calls : Calls (g.faults disk) (g.faults disk_now) (g.blamed disk_now)
+      (λ name. (doubt : Bool) × IsErrOf result (File name doubt))
+  -- no files but those of the log
+  pub touches : IsTrue g.tells → Touches IsLogName (g.past disk) (g.past disk_now)
+  pub log : IsTrue g.tells → StaysLog result (g.past disk_now) live_now
+  pub few : live_now.log.commits ≤ live.log.commits + 1
+  pub plain : IfOk result (λ done. IsPlain (answer done.reply))
 
 -- ---- what the node is then
 

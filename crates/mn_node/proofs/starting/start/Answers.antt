@@ -121,7 +121,7 @@ pub returns-in-Ok-clause-touches : goal.returns-in-Ok-clause-touches
 returns-in-Ok-clause-touches g c told =
     opened_touched (g.D.Disk.past c.args.disk.now) (g.D.Disk.past c.found.new.disk)
     (g.D.Disk.past c.synced_directory.new.disk) (g.D.Disk.past c.open.new.disk)
-    (c.in_ok-read.ensures.same told) (c.in_ok-synced_directory.ensures.touches told) (c.in-Ok.ensures.touches told)
+    (c.in_ok-read.ensures.same told) (c.in_ok-synced_directory.ensures.touches told) (c.in-Ok.ensures.calls.touches told)
 
 pub returns-in-Ok-clause-meaning : goal.returns-in-Ok-clause-meaning
 returns-in-Ok-clause-meaning g c told name at broken =
@@ -173,7 +173,7 @@ pub returns-clause-touches : goal.returns-clause-touches
 returns-clause-touches g c told =
     opened_touched (g.D.Disk.past c.args.disk.now) (g.D.Disk.past c.found.new.disk)
     (g.D.Disk.past c.synced_directory.new.disk) (g.D.Disk.past c.open.new.disk)
-    (c.in_ok-read.ensures.same told) (c.in_ok-synced_directory.ensures.touches told) (c.in-Err.ensures.touches told)
+    (c.in_ok-read.ensures.same told) (c.in_ok-synced_directory.ensures.touches told) (c.in-Err.ensures.calls.touches told)
 
 pub returns-clause-kept : goal.returns-clause-kept
 returns-clause-kept g c told name at broken =
@@ -185,9 +185,9 @@ pub returns-clause-calls : goal.returns-clause-calls
 returns-clause-calls g c =
     start_calls c.in-Err.error c.open_error.result
     (c.in_ok-synced_directory.ensures.calls.answered (λ name is. absurd (cc is))
-    ∙ c.in_ok-read.ensures.calls.answered (λ name is. absurd (cc is))) c.in-Err.ensures.cause c.open_error.ensures.file
+    ∙ c.in_ok-read.ensures.calls.answered (λ name is. absurd (cc is))) c.in-Err.ensures.calls.cause c.open_error.ensures.file
 
 pub returns-clause-named : goal.returns-clause-named
 returns-clause-named g c name is =
     let failed_is : c.open_error.result ≡ File name = cc is in
-    c.in-Err.ensures.named name (ap (λ e. Err e) ((c.open_error.ensures.file name).1 failed_is))
+    c.in-Err.ensures.calls.named name (ap (λ e. Err e) ((c.open_error.ensures.file name).1 failed_is))

@@ -16,7 +16,7 @@ returns-in-Ok-clause-opens g c told =
     (record {
       any_moment = c.in-Ok.ensures.any_moment told;
       sound = c.in-Ok.ensures.sound told;
-      touches = c.in-Ok.ensures.touches told;
+      touches = c.in-Ok.ensures.calls.touches told;
     })
     (record { commits = c.len.result; closed = log.closed }) log count
     (handle_of log c.len.result own (ap (λ (l : Handle). l.draft) is)) is
@@ -30,7 +30,7 @@ returns-in-Err-clause-opens g c told =
     (record {
       any_moment = c.in-Err.ensures.any_moment told;
       sound = c.in-Err.ensures.sound told;
-      touches = c.in-Err.ensures.touches told;
+      touches = c.in-Err.ensures.calls.touches told;
     })
     c.in-Err.error (c.in-Err.ensures.kept told)
 

@@ -1,11 +1,13 @@
-use Rattle.std.proofs.Common.{◌++◌, inl, ap, ◌∙◌}
+use Rattle.std.proofs.Common.{◌≡◌, ◌++◌, inl, inr, refl, ap, ◌∙◌, arith}
 use Rattle.std.proofs.lemmas.Result.{err_from_is_err_and}
-use Rattle.file_trait.proofs.Touched.{then_touched, append_touches}
+use Rattle.file_trait.proofs.Touched.{append_touches}
 use Rattle.disk_logs.specs.Logs.{Handle, file_of}
 use Rattle.disk_logs.proofs.Appends.{appended, not_opened}
-use Rattle.disk_logs.proofs.Effects.{appended_kept}
 use Rattle.disk_logs.proofs.Handles.{leaves_of, sound_of, more_of, wanted_kept, wanted_moments, appends_stands, appends_moments}
 use Rattle.disk_logs.proofs.Handles.{appends_drafted}
+use Rattle.disk_logs.specs.Calls.{LogCalls}
+use Rattle.disk_logs.specs.Errors.{OnlyFileOrMemory}
+use Rattle.disk_logs.proofs.Calls.{told_some, told_calls, then_calls}
 use Rattle.disk_logs.proofs.log.Log.append.Goals as goal
 
 pub returns-in_err-open-clause-appended : goal.returns-in_err-open-clause-appended
@@ -30,16 +32,6 @@ returns-clause-appended g c all more told is here =
     appended _ _ _ _ _ all more _ _ _ _ (c.self.invariant ∙ ap file_of (c.self.view_is ∙ c.in_ok-open.ensures.log)) is
     (ap (λ (h : Handle). h.closed) c.in_ok-open.ensures.log)
     (c.in_ok-open.ensures.marked all told here) c.told.ensures (c.append.ensures.done told)
-
-pub returns-clause-others : goal.returns-clause-others
-returns-clause-others g c told other apart =
-    appended_kept _ _ _ _ _ other (λ is. apart (is ∙ c.self.invariant ∙ ap file_of (c.self.view_is ∙ c.in_ok-open.ensures.log)))
-    (c.append.ensures.done told) ∙ c.open.ensures.others told other apart
-
-pub returns-clause-touches : goal.returns-clause-touches
-returns-clause-touches g c told =
-    then_touched _ _ _ _ (c.open.ensures.touches told)
-    (append_touches _ _ _ _ _ _ (c.append.ensures.done told) (c.self.invariant ∙ ap file_of (c.self.view_is ∙ c.in_ok-open.ensures.log)))
 
 pub returns-clause-stands : goal.returns-clause-stands
 returns-clause-stands g c all more synced told fit is stands =
@@ -76,3 +68,19 @@ returns-clause-drafted g c all more told drafted is draft =
     appends_drafted _ _ c.args.self.now all more _ _ _ _ _ (c.self.invariant ∙ ap file_of (c.self.view_is ∙ c.in_ok-open.ensures.log))
     drafted is (c.open.ensures.same told (inl drafted)) draft c.told.ensures
     (c.append.ensures.done told)
+
+pub returns-clause-calls : goal.returns-clause-calls
+returns-clause-calls g c =
+    let file = c.self.invariant ∙ ap file_of (c.self.view_is ∙ c.in_ok-open.ensures.log) in
+    let opens : LogCalls g.D.Disk c.args.disk.now c.open.new.disk (λ n. n ≡ file_of c.args.self.now) OnlyFileOrMemory
+    c.open.result = record {
+      touches = c.open.ensures.touches;
+      time = c.open.ensures.time;
+      named = c.open.ensures.named;
+      only = c.open.ensures.only;
+      cause = c.open.ensures.cause;
+    } in
+    then_calls g.D.Disk _ _ _ _ _ _ c.open.result _ _ c.in_ok-open.was opens
+    (told_calls g.D.Disk _ _ _ _ _ _ _ _ c.told.ensures file (inr (0, omega arith, refl))
+    (λ told. append_touches _ _ _ _ _ _ (c.append.ensures.done told) file)
+    c.append.ensures.time (told_some _ _) c.append.ensures.cause)

@@ -1,14 +1,9 @@
 use Rattle.std.proofs.Common.{false, refl}
 use Rattle.file_trait.proofs.Moments.{none_done}
 use Rattle.disk_logs.specs.Logs.{file_of}
-use Rattle.disk_logs.proofs.Appends.{set_touches, set_others}
+use Rattle.disk_logs.proofs.Appends.{set_touches}
 use Rattle.disk_logs.proofs.Handles.{is_closed, stands_safe, opens_stands, opens_moments}
 use Rattle.disk_logs.proofs.log.Log.open.Goals as goal
-
-pub returns-then-is_closed-clause-others : goal.returns-then-is_closed-clause-others
-returns-then-is_closed-clause-others g c told other apart =
-    set_others (file_of c.args.self.now) false c.set_mark.result (g.D.Disk.past c.args.disk.now) (g.D.Disk.past c.set_mark.new.disk) other
-    apart (c.set_mark.ensures.done told)
 
 pub returns-then-is_closed-clause-touches : goal.returns-then-is_closed-clause-touches
 returns-then-is_closed-clause-touches g c told =

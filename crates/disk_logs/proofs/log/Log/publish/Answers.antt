@@ -4,14 +4,9 @@ use Rattle.log_items.specs.Items.{log_bytes}
 use Rattle.disk_logs.specs.Logs.{Handle, draft_name, file_of}
 use Rattle.disk_logs.proofs.Appends.{published, draft_apart, file_of_draft}
 use Rattle.disk_logs.proofs.Effects.{synced_kept}
-use Rattle.disk_logs.proofs.Publishing.{first_step, second_step, third_step, last_step, step_touches, name_step, images_step, sound_step, same_error, wanted_touches, whole_stands, whole_durable, dir_durable}
+use Rattle.disk_logs.proofs.Publishing.{first_step, second_step, third_step, last_step, name_step, images_step, sound_step, same_error, wanted_touches, whole_stands, whole_durable, dir_durable}
+use Rattle.disk_logs.proofs.Calls.{first_calls, second_calls, third_calls, done_calls, passed_calls}
 use Rattle.disk_logs.proofs.log.Log.publish.Goals as goal
-
-pub returns-in_err-told-clause-touches : goal.returns-in_err-told-clause-touches
-returns-in_err-told-clause-touches g c told =
-    step_touches _ _ _ _
-    (first_step _ _ (draft_name c.args.self.now.name) _ _ _ _ (c.self.invariant ∙ ap file_of c.self.view_is ∙ file_of_draft c.args.self.now c.requires.draft)
-    (ap (λ (h : Handle). h.name) c.self.view_is) (c.sync.ensures.done told))
 
 pub returns-in_err-told-clause-any_moment : goal.returns-in_err-told-clause-any_moment
 returns-in_err-told-clause-any_moment g c whole told here =
@@ -30,12 +25,6 @@ returns-in_err-told-clause-images g c whole told here =
     images_step _ _ whole _ here _
     (first_step _ _ (draft_name c.args.self.now.name) _ _ _ _ (c.self.invariant ∙ ap file_of c.self.view_is ∙ file_of_draft c.args.self.now c.requires.draft)
     (ap (λ (h : Handle). h.name) c.self.view_is) (c.sync.ensures.done told))
-
-pub returns-in_err-told-2-clause-touches : goal.returns-in_err-told-2-clause-touches
-returns-in_err-told-2-clause-touches g c told =
-    step_touches _ _ _ _
-    (second_step _ _ (draft_name c.args.self.now.name) _ _ _ _ (c.self.invariant ∙ ap file_of c.self.view_is ∙ file_of_draft c.args.self.now c.requires.draft)
-    (ap (λ (h : Handle). h.name) c.self.view_is) (c.sync.ensures.done told) _ _ c.told.ensures c.in_ok-told.was _ _ (c.rename.ensures.done told))
 
 pub returns-in_err-told-2-clause-wanted : goal.returns-in_err-told-2-clause-wanted
 returns-in_err-told-2-clause-wanted g c told wanted =
@@ -61,13 +50,6 @@ returns-in_err-told-2-clause-images g c whole told here =
     (second_step _ _ (draft_name c.args.self.now.name) _ _ _ _ (c.self.invariant ∙ ap file_of c.self.view_is ∙ file_of_draft c.args.self.now c.requires.draft)
     (ap (λ (h : Handle). h.name) c.self.view_is) (c.sync.ensures.done told) _ _ c.told.ensures c.in_ok-told.was _ _ (c.rename.ensures.done told))
 
-pub returns-in_err-told-3-clause-touches : goal.returns-in_err-told-3-clause-touches
-returns-in_err-told-3-clause-touches g c told =
-    step_touches _ _ _ _
-    (third_step _ _ (draft_name c.args.self.now.name) _ _ _ _ (c.self.invariant ∙ ap file_of c.self.view_is ∙ file_of_draft c.args.self.now c.requires.draft)
-    (ap (λ (h : Handle). h.name) c.self.view_is) (c.sync.ensures.done told) _ _ c.told.ensures c.in_ok-told.was _ _ (c.rename.ensures.done told)
-    _ _ c.told-2.ensures c.in_ok-told-2.was _ _ (c.sync_dir.ensures.done told))
-
 pub returns-in_err-told-3-clause-any_moment : goal.returns-in_err-told-3-clause-any_moment
 returns-in_err-told-3-clause-any_moment g c whole told here =
     name_step _ _ whole _ here _
@@ -85,13 +67,6 @@ returns-in_err-told-3-clause-sound g c items told fit here sound =
 pub returns-in_err-told-3-clause-images : goal.returns-in_err-told-3-clause-images
 returns-in_err-told-3-clause-images g c whole told here =
     images_step _ _ whole _ here _
-    (third_step _ _ (draft_name c.args.self.now.name) _ _ _ _ (c.self.invariant ∙ ap file_of c.self.view_is ∙ file_of_draft c.args.self.now c.requires.draft)
-    (ap (λ (h : Handle). h.name) c.self.view_is) (c.sync.ensures.done told) _ _ c.told.ensures c.in_ok-told.was _ _ (c.rename.ensures.done told)
-    _ _ c.told-2.ensures c.in_ok-told-2.was _ _ (c.sync_dir.ensures.done told))
-
-pub returns-clause-touches : goal.returns-clause-touches
-returns-clause-touches g c told =
-    step_touches _ _ _ _
     (third_step _ _ (draft_name c.args.self.now.name) _ _ _ _ (c.self.invariant ∙ ap file_of c.self.view_is ∙ file_of_draft c.args.self.now c.requires.draft)
     (ap (λ (h : Handle). h.name) c.self.view_is) (c.sync.ensures.done told) _ _ c.told.ensures c.in_ok-told.was _ _ (c.rename.ensures.done told)
     _ _ c.told-2.ensures c.in_ok-told-2.was _ _ (c.sync_dir.ensures.done told))
@@ -142,3 +117,39 @@ returns-clause-durable g c whole told here =
 
 pub returns-clause-directory : goal.returns-clause-directory
 returns-clause-directory g c told = dir_durable _ _ _ _ _ _ c.told-3.ensures c.in_ok-told-3.was (c.sync_dir.ensures.done told)
+
+pub returns-in_err-told-clause-calls : goal.returns-in_err-told-clause-calls
+returns-in_err-told-clause-calls g c =
+    let p = err_from_is_err_and c.from_residual.result c.from_residual.ensures.1 in
+    let name = ap (λ (h : Handle). h.name) c.self.view_is in
+    let file = c.self.invariant ∙ ap file_of c.self.view_is ∙ file_of_draft c.args.self.now c.requires.draft in
+    passed_calls g.D.Disk _ _ _ _ _ _ _ p.1 p.2 c.in_err-told.was
+    (first_calls g.D.Disk _ _ _ _ file name _ _ _ _ c.told.ensures c.sync.ensures.done c.sync.ensures.time c.sync.ensures.cause)
+
+pub returns-in_err-told-2-clause-calls : goal.returns-in_err-told-2-clause-calls
+returns-in_err-told-2-clause-calls g c =
+    let p = err_from_is_err_and c.from_residual-in_err-told-2.result c.from_residual-in_err-told-2.ensures.1 in
+    let name = ap (λ (h : Handle). h.name) c.self.view_is in
+    let file = c.self.invariant ∙ ap file_of c.self.view_is ∙ file_of_draft c.args.self.now c.requires.draft in
+    passed_calls g.D.Disk _ _ _ _ _ _ _ p.1 p.2 c.in_err-told-2.was
+    (second_calls g.D.Disk _ _ _ _ file name _ _ _ _ c.told.ensures c.sync.ensures.done c.sync.ensures.time c.sync.ensures.cause
+    _ c.in_ok-told.was _ _ _ c.told-2.ensures c.rename.ensures.done c.rename.ensures.time c.rename.ensures.cause)
+
+pub returns-in_err-told-3-clause-calls : goal.returns-in_err-told-3-clause-calls
+returns-in_err-told-3-clause-calls g c =
+    let p = err_from_is_err_and c.from_residual-in_err-told-3.result c.from_residual-in_err-told-3.ensures.1 in
+    let name = ap (λ (h : Handle). h.name) c.self.view_is in
+    let file = c.self.invariant ∙ ap file_of c.self.view_is ∙ file_of_draft c.args.self.now c.requires.draft in
+    passed_calls g.D.Disk _ _ _ _ _ _ _ p.1 p.2 c.in_err-told-3.was
+    (third_calls g.D.Disk _ _ _ _ file name _ _ _ _ c.told.ensures c.sync.ensures.done c.sync.ensures.time c.sync.ensures.cause
+    _ c.in_ok-told.was _ _ _ c.told-2.ensures c.rename.ensures.done c.rename.ensures.time c.rename.ensures.cause
+    _ c.in_ok-told-2.was _ _ _ c.told-3.ensures c.sync_dir.ensures.done c.sync_dir.ensures.time c.sync_dir.ensures.cause)
+
+pub returns-clause-calls : goal.returns-clause-calls
+returns-clause-calls g c =
+    let name = ap (λ (h : Handle). h.name) c.self.view_is in
+    let file = c.self.invariant ∙ ap file_of c.self.view_is ∙ file_of_draft c.args.self.now c.requires.draft in
+    done_calls g.D.Disk _ _ _ _ _ _ _ c.in_ok-told-3.was
+    (third_calls g.D.Disk _ _ _ _ file name _ _ _ _ c.told.ensures c.sync.ensures.done c.sync.ensures.time c.sync.ensures.cause
+    _ c.in_ok-told.was _ _ _ c.told-2.ensures c.rename.ensures.done c.rename.ensures.time c.rename.ensures.cause
+    _ c.in_ok-told-2.was _ _ _ c.told-3.ensures c.sync_dir.ensures.done c.sync_dir.ensures.time c.sync_dir.ensures.cause)

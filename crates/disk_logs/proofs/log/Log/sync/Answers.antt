@@ -1,8 +1,10 @@
-use Rattle.std.proofs.Common.{refl, ap, ◌∙◌}
+use Rattle.std.proofs.Common.{inr, refl, ap, ◌∙◌, arith}
 use Rattle.file_trait.proofs.Moments.{none_done}
 use Rattle.file_trait.proofs.Touched.{sync_touches}
 use Rattle.disk_logs.specs.Logs.{file_of}
 use Rattle.disk_logs.proofs.Handles.{is_open, stands_safe, syncs_moments, syncs_sound, syncs_stands}
+use Rattle.disk_logs.specs.Errors.{OnlyFile}
+use Rattle.disk_logs.proofs.Calls.{told_file, told_calls}
 use Rattle.disk_logs.proofs.log.Log.sync.Goals as goal
 
 pub returns-then-is_closed-clause-any_moment : goal.returns-then-is_closed-clause-any_moment
@@ -12,9 +14,6 @@ returns-then-is_closed-clause-any_moment g c items synced told stands =
 pub returns-then-is_closed-clause-sound : goal.returns-then-is_closed-clause-sound
 returns-then-is_closed-clause-sound g c items synced told stands =
     none_done _ _ _ refl (stands_safe _ c.args.self.now items synced stands).1
-
-pub returns-clause-touches : goal.returns-clause-touches
-returns-clause-touches g c told = sync_touches _ _ _ _ _ (c.sync.ensures.done told) (c.self.invariant ∙ ap file_of c.self.view_is)
 
 pub returns-clause-stands : goal.returns-clause-stands
 returns-clause-stands g c items synced told stands =
@@ -29,3 +28,10 @@ returns-clause-any_moment g c items synced told stands =
 pub returns-clause-sound : goal.returns-clause-sound
 returns-clause-sound g c items synced told stands =
     syncs_sound _ c.args.self.now items synced _ _ _ (c.self.invariant ∙ ap file_of c.self.view_is) stands (c.sync.ensures.done told)
+
+pub returns-clause-calls : goal.returns-clause-calls
+returns-clause-calls g c =
+    let file = c.self.invariant ∙ ap file_of c.self.view_is in
+    told_calls g.D.Disk _ _ _ OnlyFile _ _ _ _ c.told.ensures file (inr (0, omega arith, refl))
+    (λ told. sync_touches _ _ _ _ _ (c.sync.ensures.done told) file)
+    c.sync.ensures.time (told_file _ _ c.sync.ensures.memory) c.sync.ensures.cause

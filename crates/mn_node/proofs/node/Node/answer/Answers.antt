@@ -1,9 +1,9 @@
 use Rattle.std.proofs.Common.{refl, ap}
 use Rattle.mn_node.specs.Inside.Tries.{failed_answer}
-use Rattle.mn_node.specs.Machine.{command, now_of, is_down}
+use Rattle.mn_node.specs.Machine.{command, is_down}
 use Rattle.mn_node.specs.Seen as seen
 use Rattle.mn_node.proofs.NodeOwes.{failed_owes, same_owes}
-use Rattle.mn_node.proofs.NodeSteps.{asked_puts, settled_steps, failed_steps, down_steps, not_up, up_shows, tried_at, steps_at}
+use Rattle.mn_node.proofs.NodeSteps.{puts_asked, settled_steps, failed_steps, down_steps, not_up, up_shows, tried_at, steps_at}
 use Rattle.mn_node.proofs.node.Node.answer.Goals as goal
 
 pub returns-in_default : goal.returns-in_default
@@ -31,7 +31,7 @@ returns-in-Ok-clause-steps g c told first old shown =
     let tried = tried_at first before now node c.in-Up.live old up shown asked _ live
     (did.tries told _ _ (up_shows first before now node c.in-Up.live old up shown asked)) in
     steps_at first before now old (command asked) _ (seen.answer done.reply) node _ _ (ap seen.answer c.settle.ensures.reply)
-    c.settle.ensures.node (settled_steps first before now node c.in-Up.live old up shown asked live done tried did.plain)
+    c.settle.ensures.node (settled_steps first before now node c.in-Up.live old up shown asked live done tried did.owes.plain)
 
 pub returns-in-Err-clause-steps : goal.returns-in-Err-clause-steps
 returns-in-Err-clause-steps g c told first old shown =
@@ -44,7 +44,7 @@ returns-in-Err-clause-steps g c told first old shown =
     let trouble = c.in-Err.trouble in
     let tried = tried_at first before now node c.in-Up.live old up shown asked _ live
     (c.in-Err.ensures.tries told _ _ (up_shows first before now node c.in-Up.live old up shown asked)) in
-    let puts = asked_puts (now_of old) c.args.command c.requires.row in
+    let puts = puts_asked first before now node c.in-Up.live old up shown asked in
     steps_at first before now old (command asked) _ (failed_answer trouble) node _ _ c.fail.ensures.reply
     c.fail.ensures.node (failed_steps first before now node c.in-Up.live old up shown asked live trouble puts tried)
 
@@ -53,5 +53,5 @@ returns-in-Err-clause-owes g c =
     let past = g.D.Disk.past c.attempt-tried.new.disk in
     let live = c.attempt-tried.new.self in
     let did = c.in-Err.ensures in
-    failed_owes g.D.Disk.tells _ _ _ _ past c.args.self.now c.in-Up.live live c.in-Up.is did.few did.touches c.in-Err.trouble _ _
-    c.fail.ensures.reply c.fail.ensures.node did.calls did.log
+    failed_owes g.D.Disk.tells _ _ _ _ past c.args.self.now c.in-Up.live live c.in-Up.is did.owes.few did.owes.touches c.in-Err.trouble _ _
+    c.fail.ensures.reply c.fail.ensures.node did.owes.calls did.owes.log

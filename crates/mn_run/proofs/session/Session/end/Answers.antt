@@ -2,7 +2,7 @@ use Rattle.std.proofs.Common.{◌∙◌, ap}
 use Rattle.mn_node.specs.Seen as seen
 use Rattle.mn_run.specs.declared.outcome.Status.TheVariants.{Done, DiskFault}
 use Rattle.mn_run.specs.declared.session.Session.{Session}
-use Rattle.mn_run.proofs.RunServes.{is_marked, ended_stopped, ended_fault, ended_down, ended_wanting}
+use Rattle.mn_run.proofs.RunServes.{is_marked, ended_stopped, ended_fault, ended_down, ended_wanting, wants_reply}
 use Rattle.mn_run.proofs.session.Session.end.Goals as goal
 use Rattle.mn_run.proofs.session.Session.end.Goals.{in-Stopped, in-Fault, in-Down, in_default}
 
@@ -39,5 +39,6 @@ returns-clause-ended g c told first machine shown =
           steps end (ap seen.answer w.in-Down.is) (w.result-is ∙ w.why_down.ensures) (ap (λ (s : Session). s.marks.items) w.self-is)
       | in_default w ↦ ended_wanting first machine past faults session new node
           (ap (λ (s : Session). s.node) w.self-is) now faults_now owes.calls.later c.args.done mark is answer owes.calls.rose owes.calls.answered
-          steps end w.result-is (ap (λ (s : Session). s.marks.items) w.self-is)
+          steps end w.result-is (wants_reply c.end-reply.result _ w.in_default.not-Down)
+          (ap (λ (s : Session). s.marks.items) w.self-is)
     ]

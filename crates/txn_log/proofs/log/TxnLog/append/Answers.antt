@@ -1,6 +1,6 @@
 use Rattle.std.proofs.Common.{◌+◌, Ok, Err, ap, ◌∙◌}
 use Rattle.txn_log.specs.Logs.{LogState, handle}
-use Rattle.txn_log.proofs.Acts.{item_is, touches_log, handle_file, handle_marked, handle_either, append_logs, append_fails, append_moments, appended_stands, kept_stands, same_moments, log_sound}
+use Rattle.txn_log.proofs.Acts.{item_is, touches_latest, handle_file, handle_marked, handle_either, append_logs, append_fails, append_moments, appended_stands, kept_stands, same_moments, log_sound}
 use Rattle.txn_log.proofs.log.TxnLog.append.Goals as goal
 
 pub append-requires-clause-items : goal.append-requires-clause-items
@@ -31,12 +31,17 @@ returns-in-Err-clause-only_old g c commits synced told stands is =
     same_moments (g.D.Disk.past c.args.disk.now) (g.D.Disk.past c.append.new.disk) c.self.inside.log c.append.new.self c.args.self.now commits synced (c.self.invariant ∙ ap handle c.self.view_is) stands
     (λ all least before. c.in-Err.ensures.only_old all least told before is)
 
-pub returns-in-Err-clause-touches : goal.returns-in-Err-clause-touches
-returns-in-Err-clause-touches g c told =
-    touches_log (g.D.Disk.past c.args.disk.now) (g.D.Disk.past c.append.new.disk) _ (handle_file c.self.inside.log c.args.self.now (c.self.invariant ∙ ap handle c.self.view_is)) (c.in-Err.ensures.touches told)
-
-pub returns-in-Err-clause-named : goal.returns-in-Err-clause-named
-returns-in-Err-clause-named g c name is = c.in-Err.ensures.named name (cc) ∙ handle_file c.self.inside.log c.args.self.now (c.self.invariant ∙ ap handle c.self.view_is)
+pub returns-in-Err-clause-calls : goal.returns-in-Err-clause-calls
+returns-in-Err-clause-calls g c =
+    let file = handle_file c.self.inside.log c.args.self.now (c.self.invariant ∙ ap handle c.self.view_is) in
+    record {
+      touches = λ told. touches_latest (g.D.Disk.past c.args.disk.now) (g.D.Disk.past c.append.new.disk) _ file
+          (c.in-Err.ensures.calls.touches told);
+      time = c.in-Err.ensures.calls.time;
+      named = λ name is. c.in-Err.ensures.calls.named name (cc) ∙ file;
+      only = c.in-Err.ensures.calls.only;
+      cause = c.in-Err.ensures.calls.cause;
+    }
 
 pub returns-clause-log : goal.returns-clause-log
 returns-clause-log g c told =
@@ -54,9 +59,17 @@ returns-clause-any_moment g c commits synced commit told item stands =
     append_moments (g.D.Disk.past c.args.disk.now) (g.D.Disk.past c.append.new.disk) c.self.inside.log c.append.new.self c.args.self.now commits synced (c.self.invariant ∙ ap handle c.self.view_is) stands
     c.args.item.now commit item (λ all more least fit is. c.in-Ok.ensures.any_moment all more least told fit (c.bytes.ensures.value ∙ is))
 
-pub returns-clause-touches : goal.returns-clause-touches
-returns-clause-touches g c told =
-    touches_log (g.D.Disk.past c.args.disk.now) (g.D.Disk.past c.append.new.disk) _ (handle_file c.self.inside.log c.args.self.now (c.self.invariant ∙ ap handle c.self.view_is)) (c.in-Ok.ensures.touches told)
+pub returns-clause-calls : goal.returns-clause-calls
+returns-clause-calls g c =
+    let file = handle_file c.self.inside.log c.args.self.now (c.self.invariant ∙ ap handle c.self.view_is) in
+    record {
+      touches = λ told. touches_latest (g.D.Disk.past c.args.disk.now) (g.D.Disk.past c.append.new.disk) _ file
+          (c.in-Ok.ensures.calls.touches told);
+      time = c.in-Ok.ensures.calls.time;
+      named = λ name is. absurd (cc is);
+      only = tt;
+      cause = c.in-Ok.ensures.calls.cause;
+    }
 
 pub returns-in-Err-clause-sound : goal.returns-in-Err-clause-sound
 returns-in-Err-clause-sound g c commits synced told stands =

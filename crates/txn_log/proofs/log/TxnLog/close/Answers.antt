@@ -1,6 +1,6 @@
 use Rattle.std.proofs.Common.{true, ap, ◌∙◌}
 use Rattle.txn_log.specs.Logs.{LogState, handle}
-use Rattle.txn_log.proofs.Acts.{on_ok, touches_log, handle_file, handle_marked, handle_same, same_moments, log_sound, log_durable, close_logs, close_fails, kept_stands, when_synced}
+use Rattle.txn_log.proofs.Acts.{on_ok, touches_latest, handle_file, handle_marked, handle_same, same_moments, log_sound, log_durable, close_logs, close_fails, kept_stands, when_synced}
 use Rattle.txn_log.proofs.log.TxnLog.close.Goals as goal
 
 pub returns-clause-wanted : goal.returns-clause-wanted
@@ -30,9 +30,17 @@ returns-clause-any_moment g c commits synced told stands =
     same_moments (g.D.Disk.past c.args.disk.now) (g.D.Disk.past c.close.new.disk) c.self.inside.log c.close.new.self c.args.self.now commits synced (c.self.invariant ∙ ap handle c.self.view_is) stands
     (λ all least before. c.close.ensures.any_moment all least told before)
 
-pub returns-clause-touches : goal.returns-clause-touches
-returns-clause-touches g c told =
-    touches_log (g.D.Disk.past c.args.disk.now) (g.D.Disk.past c.close.new.disk) _ (handle_file c.self.inside.log c.args.self.now (c.self.invariant ∙ ap handle c.self.view_is)) (c.close.ensures.touches told)
+pub returns-clause-calls : goal.returns-clause-calls
+returns-clause-calls g c =
+    let file = handle_file c.self.inside.log c.args.self.now (c.self.invariant ∙ ap handle c.self.view_is) in
+    let close = c.close.ensures.calls in
+    record {
+      touches = λ told. touches_latest (g.D.Disk.past c.args.disk.now) (g.D.Disk.past c.close.new.disk) _ file (close.touches told);
+      time = close.time;
+      named = λ name is. close.named name is ∙ file;
+      only = close.only;
+      cause = close.cause;
+    }
 
 pub returns-clause-sound : goal.returns-clause-sound
 returns-clause-sound g c commits synced told stands =

@@ -11,3 +11,25 @@ returns-in-None-clause-opened g c commits told has = (c.made.ensures.opens told)
 
 pub returns-in-None-clause-kept : goal.returns-in-None-clause-kept
 returns-in-None-clause-kept g c commits told has = (c.made.ensures.opens told).kept commits has
+
+pub returns-in-Some-clause-calls : goal.returns-in-Some-clause-calls
+returns-in-Some-clause-calls g c =
+    let done = c.resumed.ensures in
+    record {
+      touches = λ told. (done.opens told).touches;
+      time = done.time;
+      named = done.named;
+      only = done.only;
+      cause = done.cause;
+    }
+
+pub returns-in-None-clause-calls : goal.returns-in-None-clause-calls
+returns-in-None-clause-calls g c =
+    let done = c.made.ensures in
+    record {
+      touches = λ told. (done.opens told).touches;
+      time = done.time;
+      named = done.named;
+      only = done.only;
+      cause = done.cause;
+    }

@@ -1,6 +1,6 @@
 use Rattle.std.proofs.Common.{ap, ◌∙◌}
 use Rattle.txn_log.specs.Logs.{LogState, handle}
-use Rattle.txn_log.proofs.Acts.{any_ok, touches_log, handle_file, handle_same, same_moments, log_sound, sync_fails, when_synced}
+use Rattle.txn_log.proofs.Acts.{any_ok, touches_latest, handle_file, handle_same, same_moments, log_sound, sync_fails, when_synced}
 use Rattle.txn_log.proofs.log.TxnLog.sync.Goals as goal
 
 pub returns-clause-stands : goal.returns-clause-stands
@@ -19,12 +19,17 @@ returns-clause-any_moment g c commits synced told stands =
     same_moments (g.D.Disk.past c.args.disk.now) (g.D.Disk.past c.sync.new.disk) c.self.inside.log c.sync.new.self c.args.self.now commits synced (c.self.invariant ∙ ap handle c.self.view_is) stands
     (λ all least before. c.sync.ensures.any_moment all least told before)
 
-pub returns-clause-touches : goal.returns-clause-touches
-returns-clause-touches g c told =
-    touches_log (g.D.Disk.past c.args.disk.now) (g.D.Disk.past c.sync.new.disk) _ (handle_file c.self.inside.log c.args.self.now (c.self.invariant ∙ ap handle c.self.view_is)) (c.sync.ensures.touches told)
-
-pub returns-clause-named : goal.returns-clause-named
-returns-clause-named g c name is = c.sync.ensures.named name is ∙ handle_file c.self.inside.log c.args.self.now (c.self.invariant ∙ ap handle c.self.view_is)
+pub returns-clause-calls : goal.returns-clause-calls
+returns-clause-calls g c =
+    let file = handle_file c.self.inside.log c.args.self.now (c.self.invariant ∙ ap handle c.self.view_is) in
+    let sync = c.sync.ensures.calls in
+    record {
+      touches = λ told. touches_latest (g.D.Disk.past c.args.disk.now) (g.D.Disk.past c.sync.new.disk) _ file (sync.touches told);
+      time = sync.time;
+      named = λ name is. sync.named name is ∙ file;
+      only = sync.only;
+      cause = sync.cause;
+    }
 
 pub returns-clause-sound : goal.returns-clause-sound
 returns-clause-sound g c commits synced told stands =
