@@ -1,15 +1,17 @@
 -- Every directory stands for one durable state, or has no meaning from one place on.
-use Rattle.std.proofs.Common.{◌≡◌, ◌⊎◌, ℕ, zero, suc, ◌^◌, ◌≤◌, List, [], ◌∷◌, length, refl, sym, ap, ◌∙◌, subst, inl, inr, arith}
+use Rattle.std.proofs.Common.{◌≡◌, ◌⊎◌, ℕ, zero, suc, ◌^◌, ◌≤◌, List, [], ◌∷◌, ◌++◌, length, refl, sym, ap, ◌∙◌, subst, inl, inr, arith}
 use Rattle.std.proofs.lemmas.Bool.{cases_Bool, cases_lt}
+use Rattle.std.proofs.lemmas.List.Elements.{All-nil, All-cons, All-head, All-tail, All-push}
 use Rattle.term_core.specs.Tree.{Tree, int, atom, tuple, list, bin, tree, no_trees, depth}
 use Rattle.term_core.specs.Order.{same_tree, same_tree_is}
 use Rattle.term_core.specs.Written.{canon}
 use Rattle.db_model.specs.Commits.{CommitRecord, SchemaOperation}
 use Rattle.db_model.specs.Ops.{Operation, write, delete, delete_object, clear}
+use Rattle.txn_log.proofs.CommitLists.{AllowsFirst, TellsNext}
 use Rattle.txn_log.proofs.CallerLemmas.{one_list_of_commits, reads_not_wrong, one_wrong_place, log_or_wrong}
 use Rattle.mn_node.specs.Durable.{Durable, table_name, made}
 use Rattle.mn_node.specs.Meaning.{Files, latest, Stands, IsBroken}
-use Rattle.mn_node.specs.Puts.{row, IsRow, IsPut, put_of}
+use Rattle.mn_node.specs.Puts.{row, IsRow, IsPut, ArePuts, put_of}
 
 -- ---- a record
 
@@ -95,20 +97,42 @@ parts_or_not zero [] (clear table ∷ []) = inr (λ put. let is = ap (λ (c : Co
 pub put_or_not : (c : CommitRecord) → IsPut c ⊎ (IsPut c → ⊥)
 put_or_not c = parts_or_not c.version c.schema_operations c.operations
 
+-- ---- puts
+
+-- the first ones of puts are puts
+pub first_puts : AllowsFirst ArePuts
+first_puts [] more puts = All-nil IsPut
+first_puts (c ∷ commits) more puts =
+    All-cons IsPut c commits (All-head IsPut c (commits ++ more) puts)
+    (first_puts commits more (All-tail IsPut c (commits ++ more) puts))
+
+-- and the last one is
+pub last_put : (commits : List CommitRecord) (commit : CommitRecord) → ArePuts (commits ++ commit ∷ []) → IsPut commit
+last_put [] commit puts = All-head IsPut commit [] puts
+last_put (c ∷ commits) commit puts = last_put commits commit (All-tail IsPut c (commits ++ commit ∷ []) puts)
+
+-- one more commit is a put, or not
+next_put : TellsNext ArePuts
+next_put commits commit puts = elim (put_or_not commit) [
+  | inl put ↦ inl (All-push IsPut commits commit puts put)
+  | inr other ↦ inr (λ all. other (last_put commits commit all))
+]
+
 -- ---- a directory
 
 pub stands_or_not : (files : Files) → ((w : Durable) × Stands files w) ⊎ ((name : List ℕ) × (at : ℕ) × IsBroken files name at)
-stands_or_not files = elim (log_or_wrong IsPut put_or_not (files latest)) [
+stands_or_not files = elim (log_or_wrong ArePuts next_put (All-nil IsPut) (files latest)) [
   | inl log ↦ inl (made log.0, (log.0, log.1, log.2, refl))
   | inr wrong ↦ inr (latest, wrong.0, (refl, wrong.1))
 ]
 
 pub never_both : (files : Files) (w : Durable) (name : List ℕ) (at : ℕ) → Stands files w → IsBroken files name at → ⊥
-never_both files w name at stands broken = reads_not_wrong IsPut (files latest) stands.0 at stands.1 stands.2 broken.1
+never_both files w name at stands broken = reads_not_wrong ArePuts first_puts (files latest) stands.0 at stands.1 stands.2 broken.1
 
 pub one_state : (files : Files) (w other : Durable) → Stands files w → Stands files other → w ≡ other
 one_state files w other stands also = stands.3 ∙ ap made (one_list_of_commits (files latest) stands.0 also.0 stands.1 also.1) ∙ sym also.3
 
 pub one_place : (files : Files) (name other : List ℕ) (at place : ℕ) → IsBroken files name at → IsBroken files other place
     → (name ≡ other) × (at ≡ place)
-one_place files name other at place broken also = (broken.0 ∙ sym also.0, one_wrong_place IsPut (files latest) at place broken.1 also.1)
+one_place files name other at place broken also =
+    (broken.0 ∙ sym also.0, one_wrong_place ArePuts first_puts (files latest) at place broken.1 also.1)

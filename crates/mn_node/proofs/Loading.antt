@@ -25,12 +25,12 @@ use Rattle.db_model.specs.Database.{records_of, has_key}
 use Rattle.db_model.specs.View.{commit_record}
 use Rattle.db_model.specs.declared.commit.Commit.{Commit}
 use Rattle.txn_log.specs.Commits.{IsCommit, IsNoCommit}
-use Rattle.txn_log.specs.Logs.{IsLogName, Reads, OldOrCommits, TxnStands, HasFound, IsAsRead, IsWrong, IsWrongAt}
+use Rattle.txn_log.specs.Logs.{IsLogName, Reads, OldOrCommits, TxnStands, HasFound, IsAsRead, IsOther, IsWrong, IsWrongAt}
 use Rattle.txn_log.proofs.Acts.{touches_more}
 use Rattle.txn_log.proofs.CallerLemmas.{one_commit, one_list_of_commits, reads_not_wrong, one_wrong_place, no_log_is_wrong, reads_of_items, wrong_of_items}
 use Rattle.mn_node.specs.Calls.{Calls}
 use Rattle.mn_node.specs.Durable.{made, rows_of}
-use Rattle.mn_node.specs.Inside.Loads.{Loads, MakesTable, HasPutAt, HasOtherAt, FailsBroken}
+use Rattle.mn_node.specs.Inside.Loads.{Loads, MakesTable, HasPutAt, IsNoPut, HasOtherAt, FailsBroken}
 use Rattle.mn_node.specs.Meaning.{Files, latest, IsBroken}
 use Rattle.mn_node.specs.Puts.{IsRow, IsPut, ArePuts, put_of}
 use Rattle.mn_node.specs.Shown.{OpenShows, StaysSound}
@@ -38,6 +38,7 @@ use Rattle.mn_node.specs.declared.open.Open.{Open}
 use Rattle.mn_node.specs.declared.starting.StartErr.{StartErr}
 use Rattle.mn_node.specs.declared.starting.StartErr.TheVariants as start
 use Rattle.mn_node.proofs.Contents.{records_put}
+use Rattle.mn_node.proofs.Directories.{first_puts, last_put}
 
 -- ---- a sync of the directory
 
@@ -190,13 +191,14 @@ sync_calls Memory name never cause = absurd (never refl)
 
 -- what was loaded has a meaning
 pub loaded_means : (files : Files) (table : List Tree) (name : List ℕ) (at : ℕ) → Loads files table → IsBroken files name at → ⊥
-loaded_means files table name at loads broken = reads_not_wrong IsPut (files latest) loads.commits at loads.reads loads.puts broken.1
+loaded_means files table name at loads broken =
+    reads_not_wrong ArePuts first_puts (files latest) loads.commits at loads.reads loads.puts broken.1
 
 -- a log that could not be read is wrong from the place that was told
 pub found_wrong : (files : Files) (error : LogErr) (name : List ℕ) (at : ℕ) → HasFound (Err error) (files latest)
-    → error ≡ log_err.Bad name at → IsWrong IsPut at (files latest)
+    → error ≡ log_err.Bad name at → IsWrong ArePuts at (files latest)
 found_wrong files error name at found is =
-    let here = subst (λ e. HasFound (Err e) (files latest)) is found in no_log_is_wrong IsPut at (files latest) here.1
+    let here = subst (λ e. HasFound (Err e) (files latest)) is found in no_log_is_wrong ArePuts at (files latest) here.1
 
 -- it fails with the place of the damage, or for another reason
 pub fails_broken : (files : Files) (name : List ℕ) (at : ℕ) (error : StartErr)
@@ -204,7 +206,7 @@ pub fails_broken : (files : Files) (name : List ℕ) (at : ℕ) (error : StartEr
     → IsBroken files name at → FailsBroken at error
 fails_broken files name at (start.File other) h broken = tt
 fails_broken files name at (start.Damaged other place) h broken =
-    let found = h other place refl in (found.0, one_wrong_place IsPut (files latest) place at found.1 broken.1)
+    let found = h other place refl in (found.0, one_wrong_place ArePuts first_puts (files latest) place at found.1 broken.1)
 fails_broken files name at start.Memory h broken = tt
 
 -- ---- the table of a log
@@ -220,8 +222,8 @@ table_loads files read table whole there makes = record {
 }
 
 pub items_broken : (files : Files) (read : FileRead) (name : List ℕ) (at : ℕ) → IsRead read → files latest ≡ Some read.bytes
-    → (name ≡ latest) × IsWrongAt IsPut read.items at → IsBroken files name at
-items_broken files read name at whole there wrong = (wrong.0, wrong_of_items IsPut read (files latest) at whole there wrong.1)
+    → (name ≡ latest) × IsWrongAt ArePuts read.items at → IsBroken files name at
+items_broken files read name at whole there wrong = (wrong.0, wrong_of_items ArePuts read (files latest) at whole there wrong.1)
 
 pub puts_more : (commits : List CommitRecord) (item : Tree) → ArePuts commits → IsRow item → ArePuts (commits ++ put_of item ∷ [])
 puts_more commits item puts row =
@@ -243,6 +245,10 @@ Puts commit found = MatchOption found (IsPut commit → ⊥) (λ item. IsRow (tr
 -- and the same of the item
 abbrev pub PutsAt : List (List ℕ) → ℕ → Option Term → Type 0
 PutsAt items n found = MatchOption found (HasOtherAt items n) (λ item. HasPutAt items n (tree_of item))
+
+-- behind any commits a text of no put is none that is allowed
+pub no_put_behind : (commits : List CommitRecord) (content : List ℕ) → IsNoPut content → IsOther ArePuts commits content
+no_put_behind commits content none commit puts text = none commit (last_put commits commit puts) text
 
 pub none_at : (items : List (List ℕ)) (n : ℕ) (found : Option Commit) → found ≡ None → Finds items n found → HasOtherAt items n
 none_at items n found is h =

@@ -12,18 +12,20 @@ use Rattle.txn_log.proofs.CallerLemmas.{reads_not_wrong, one_wrong_place}
 use Rattle.mn_node.specs.Durable.{Entry, Durable, after, made}
 use Rattle.mn_node.specs.Machine.{Event, refused, turn, Answer, started, bad_line, silent, halted, Machine, unstarted_machine, durable_of, now_of, HoldsAs, Holds, HoldsClosed, Leaves, Change, added}
 use Rattle.mn_node.specs.Meaning.{Files, latest, Meaning, stands, broken, Stands, StandsClosed, IsBroken, Means}
-use Rattle.mn_node.specs.Puts.{IsPut, ArePuts}
+use Rattle.mn_node.specs.Puts.{ArePuts}
 use Rattle.mn_node.specs.Shown.{ShowsLife, HasLog, Shows, Steps, IsWhole}
 use Rattle.mn_node.specs.declared.node.Node.{Node}
 use Rattle.mn_node.specs.declared.node.State.{State}
 use Rattle.mn_node.specs.declared.node.State.TheVariants.{Unstarted, Up, Stopped, Faulted, Starved, Ruined}
 use Rattle.mn_node.specs.declared.open.Open.{Open}
+use Rattle.mn_node.proofs.Directories.{first_puts}
 use Rattle.mn_node.proofs.Prefixes.{stands_behind}
 use Rattle.mn_node.proofs.NodeSteps.{begun_base, down_alive}
 
 -- a log of puts is no log without a meaning
 pub stands_not_broken : (files : Files) (w : Durable) (name : List ℕ) (at : ℕ) → Stands files w → IsBroken files name at → ⊥
-stands_not_broken files w name at (commits, has, puts, is) (named, wrong) = reads_not_wrong IsPut (files latest) commits at has puts wrong
+stands_not_broken files w name at (commits, has, puts, is) (named, wrong) =
+    reads_not_wrong ArePuts first_puts (files latest) commits at has puts wrong
 
 -- a closed log is a log
 pub closed_stands : (files : Files) (w : Durable) → StandsClosed files w → Stands files w
@@ -96,7 +98,7 @@ module _ (first past : Past) (node : Node) (machine : Machine) (shown : Shows fi
       by : (base : Meaning) → machine.base ≡ base → HoldsAs base machine (reads past) → machine.base ≡ broken name at
       by (stands w) is (kept, among, within, st) = absurd (stands_not_broken (reads past) (after w kept) name at st wrong)
       by (broken other place) is (named, there) =
-          let place_is : place ≡ at = one_wrong_place IsPut (reads past latest) place at there wrong.1 in
+          let place_is : place ≡ at = one_wrong_place ArePuts first_puts (reads past latest) place at there wrong.1 in
           is ∙ (λ i. broken ((named ∙ sym wrong.0) i) (place_is i))
 
   -- ---- events that are not the node's

@@ -14,7 +14,7 @@ use Rattle.mn_node.specs.Durable.{Entry, Durable, after, made}
 use Rattle.mn_node.specs.Inside.Loads.{FailsBroken, start_answer, down_node, up_node}
 use Rattle.mn_node.specs.Machine.{Answer, is_no_memory, start, started, no_memory, fault, damaged, is_up, command, stop, end, Life, running, faulted, starved, ruined, runs, IsAlive, Machine, durable_of, with_life, IsKept, booted, as_asked, out_of_memory, failed, Boots, Change, LeavesAs, Leaves, entries_if, added}
 use Rattle.mn_node.specs.Meaning.{Files, latest, Meaning, stands, broken, Stands, IsBroken, Means, IsPrefixOf}
-use Rattle.mn_node.specs.Puts.{IsPut, ArePuts}
+use Rattle.mn_node.specs.Puts.{ArePuts}
 use Rattle.mn_node.specs.Shown.{commits_of, OpenShows, ShowsLife, HasKept, HasLog, CountsBase, Shows, StaysSound, Steps, IsWhole}
 use Rattle.mn_node.specs.declared.node.Node.{Node}
 use Rattle.mn_node.specs.declared.node.State.{State}
@@ -22,6 +22,7 @@ use Rattle.mn_node.specs.declared.node.State.TheVariants.{Up, Faulted, Starved, 
 use Rattle.mn_node.specs.declared.open.Open.{Open}
 use Rattle.mn_node.specs.declared.starting.StartErr.{StartErr}
 use Rattle.mn_node.specs.declared.starting.StartErr.TheVariants as variants
+use Rattle.mn_node.proofs.Directories.{first_puts}
 use Rattle.mn_node.proofs.Prefixes.{made_behind, behind_count, stands_behind, crash_behind, standing_reads, standing_sound, standing_leaves, same_leaves}
 use Rattle.mn_node.proofs.NodeSteps.{steps_at, down_alive, down_runs}
 
@@ -294,7 +295,7 @@ module _ (first before now : Past) (node : Node) (machine : Machine) (whole : Is
             );
             during = start_during w is k (moments all k.has k.puts);
           }) error named (λ name at error_is.
-          absurd (reads_not_wrong IsPut (reads before latest) all at k.has k.puts (found name at error_is).1))
+          absurd (reads_not_wrong ArePuts first_puts (reads before latest) all at k.has k.puts (found name at error_is).1))
       by (broken name at) is (wrong, untouched_yet) =
           let unchanged : now ≡ before = same name at wrong in
           fails stays touches (record {

@@ -114,7 +114,7 @@ same_stands files other w same (commits, has, puts, is) = (commits, subst (Reads
 
 same_means : (files other : Files) (meaning : Meaning) → files latest ≡ other latest → Means other meaning → Means files meaning
 same_means files other (stands w) same h = same_stands files other w same h
-same_means files other (broken name at) same (named, wrong) = (named, subst (logs.IsWrong IsPut at) (sym same) wrong)
+same_means files other (broken name at) same (named, wrong) = (named, subst (logs.IsWrong ArePuts at) (sym same) wrong)
 
 pub same_leaves : (begun : Bool) (base : Meaning) (first : Past) (entries : List Entry) (least : ℕ) (files other : Files)
     → files latest ≡ other latest

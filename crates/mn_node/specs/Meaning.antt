@@ -7,7 +7,7 @@ use Rattle.txn_log.specs.Commits.{AreItemsOf}
 use Rattle.txn_log.specs.Logs as logs
 use Rattle.txn_log.specs.Logs.{Reads, IsWrong}
 use Rattle.mn_node.specs.Durable.{Entry, Durable, after, made}
-use Rattle.mn_node.specs.Puts.{IsPut, ArePuts}
+use Rattle.mn_node.specs.Puts.{ArePuts}
 
 -- the files of a directory, by their names
 abbrev pub Files : Type 0
@@ -28,7 +28,7 @@ Stands files w = (commits : List CommitRecord) × Reads commits (files latest) �
 
 -- the log is no file of items, or one with another item, from this place on
 abbrev pub IsBroken : Files → List ℕ → ℕ → Type 0
-IsBroken files name at = (name ≡ latest) × IsWrong IsPut at (files latest)
+IsBroken files name at = (name ≡ latest) × IsWrong ArePuts at (files latest)
 
 abbrev pub Means : Files → Meaning → Type 0
 Means files (stands w) = Stands files w

@@ -14,7 +14,7 @@ ghost use Rattle.mn_node.specs.Calls.{Calls};
 ghost use Rattle.mn_node.specs.Inside.Loads.{Loads, MakesTable, HasPutAt, HasOtherAt, FailsBroken};
 ghost use Rattle.mn_node.specs.Inside.Tries.{IsFileOrMemory};
 ghost use Rattle.mn_node.specs.Meaning.{Files, IsBroken, latest};
-ghost use Rattle.mn_node.specs.Puts.{IsPut, ArePuts};
+ghost use Rattle.mn_node.specs.Puts.{ArePuts};
 ghost use Rattle.mn_node.specs.Shown.{OpenShows, StaysSound};
 ghost use Rattle.mn_node.specs.declared.starting.StartErr.TheVariants.{Memory};
 
@@ -149,7 +149,7 @@ fn table_of(alloc: Global, file: &CommitFile) -> Result<Table, StartErr>
     ensures whole { IsRead file.now }
     ensures made { IfOk result (λ table. MakesTable file.now.items (map tree_of table.rows.items)) }
     ensures damaged { (name : List ℕ) (at : ℕ) → IsErrOf result (StartErr.Damaged name at)
-        → (name ≡ latest) × IsWrongAt IsPut file.now.items at }
+        → (name ≡ latest) × IsWrongAt ArePuts file.now.items at }
     ensures fault { (name : List ℕ) → IsErrOf result (StartErr.File name) → ⊥ }
 {
     let mut table = Table::new(alloc);

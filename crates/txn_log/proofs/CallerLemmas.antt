@@ -1,15 +1,17 @@
 -- What a caller cites of the log's file.
-use Rattle.std.proofs.Common.{◌≡◌, ◌⊎◌, ℕ, ◌+◌, List, [], ◌∷◌, ◌++◌, length, take, Option, Some, refl, inl, inr}
-use Rattle.std.specs.Prelude.{slice_get, All}
+use Rattle.std.proofs.Common.{◌≡◌, ◌⊎◌, ℕ, ◌+◌, ◌≤◌, List, [], ◌∷◌, ◌++◌, length, take, Option, Some, refl, inl, inr}
+use Rattle.std.specs.Prelude.{slice_get}
+use Rattle.term_core.specs.Tree.{depth, greatest_depth}
 use Rattle.log_items.specs.Items.{wire}
 use Rattle.disk_logs.specs.Logs.{FileRead, IsRead}
 use Rattle.db_model.specs.Commits.{CommitRecord}
-use Rattle.txn_log.specs.Commits.{IsCommit, IsNoCommit, AreItemsOf}
+use Rattle.txn_log.specs.Commits.{IsLogged, IsCommit, IsNoCommit, AreItemsOf, commit_tree, op_trees}
 use Rattle.txn_log.specs.Logs.{Reads, IsOther, IsWrongAt, IsWrong, IsNoLog}
-use Rattle.txn_log.proofs.CommitLists.{log_not_wrong, items_are, reads_as, wrong_read}
+use Rattle.txn_log.proofs.CommitLists.{AllowsFirst, TellsNext, log_not_wrong, items_are, reads_as, wrong_read}
 use Rattle.txn_log.proofs.CommitsRead.{same_content}
 use Rattle.txn_log.proofs.Counts.{wrong_from, items_more}
 use Rattle.txn_log.proofs.Decided.{commit_decided, file_decided}
+use Rattle.txn_log.proofs.Levels.{commit_depth, read_depth}
 use Rattle.txn_log.proofs.OneLog.{one_list_read, one_bad}
 
 -- ---- an item
@@ -23,6 +25,15 @@ one_commit = same_content
 pub commit_or_not : (content : List ℕ) → ((commit : CommitRecord) × IsCommit content commit) ⊎ IsNoCommit content
 commit_or_not = commit_decided
 
+-- what is written of a commit is not too deep where its ops are not
+pub written_levels : (commit : CommitRecord) → IsLogged commit → greatest_depth (op_trees commit.operations) ≤ 126
+    → depth (commit_tree commit) ≤ 128
+written_levels = commit_depth
+
+-- nor where the commit was read
+pub read_levels : (content : List ℕ) (commit : CommitRecord) → IsCommit content commit → depth (commit_tree commit) ≤ 128
+read_levels = read_depth
+
 -- ---- a file
 
 -- it has one list of commits at most
@@ -31,23 +42,22 @@ pub one_list_of_commits : (file : Option (List ℕ)) (commits more : List Commit
 one_list_of_commits = one_list_read
 
 -- a log of allowed commits is wrong nowhere
-pub reads_not_wrong : (Allowed : CommitRecord → Type 0) (file : Option (List ℕ)) (commits : List CommitRecord) (at : ℕ)
-    → Reads commits file → All Allowed commits → IsWrong Allowed at file → ⊥
+pub reads_not_wrong : (Allowed : List CommitRecord → Type 0) → AllowsFirst Allowed → (file : Option (List ℕ))
+    (commits : List CommitRecord) (at : ℕ) → Reads commits file → Allowed commits → IsWrong Allowed at file → ⊥
 reads_not_wrong = log_not_wrong
 
 -- it has one first wrong place at most
-pub one_wrong_place : (Allowed : CommitRecord → Type 0) (file : Option (List ℕ)) (at other : ℕ)
-    → IsWrong Allowed at file → IsWrong Allowed other file → at ≡ other
+pub one_wrong_place : (Allowed : List CommitRecord → Type 0) → AllowsFirst Allowed → (file : Option (List ℕ))
+    (at other : ℕ) → IsWrong Allowed at file → IsWrong Allowed other file → at ≡ other
 one_wrong_place = one_bad
 
--- where what is allowed can be told, it is a log of allowed commits or has a first wrong place
-pub log_or_wrong : (Allowed : CommitRecord → Type 0)
-    → ((commit : CommitRecord) → Allowed commit ⊎ (Allowed commit → ⊥)) → (file : Option (List ℕ))
-    → ((commits : List CommitRecord) × Reads commits file × All Allowed commits) ⊎ ((at : ℕ) × IsWrong Allowed at file)
+-- where what is allowed next can be told, it is a log of allowed commits or has a first wrong place
+pub log_or_wrong : (Allowed : List CommitRecord → Type 0) → TellsNext Allowed → Allowed [] → (file : Option (List ℕ))
+    → ((commits : List CommitRecord) × Reads commits file × Allowed commits) ⊎ ((at : ℕ) × IsWrong Allowed at file)
 log_or_wrong = file_decided
 
 -- what does not begin as a log is wrong, whatever is allowed
-pub no_log_is_wrong : (Allowed : CommitRecord → Type 0) (at : ℕ) (file : Option (List ℕ))
+pub no_log_is_wrong : (Allowed : List CommitRecord → Type 0) (at : ℕ) (file : Option (List ℕ))
     → IsNoLog at file → IsWrong Allowed at file
 no_log_is_wrong Allowed at file (bytes, there, inl bad) = (bytes, there, inl bad)
 no_log_is_wrong Allowed at file (bytes, there, inr (items, listed, lacks, place)) =
@@ -63,10 +73,10 @@ pub one_commit_more : (items : List (List ℕ)) (commits : List CommitRecord) (n
 one_commit_more items commits n content commit are found one = items_more items commits n content are found commit one
 
 -- behind allowed commits, what is none is the first wrong place
-pub wrong_behind : (Allowed : CommitRecord → Type 0) (items : List (List ℕ)) (commits : List CommitRecord)
+pub wrong_behind : (Allowed : List CommitRecord → Type 0) (items : List (List ℕ)) (commits : List CommitRecord)
     (n : ℕ) (content : List ℕ) (at : ℕ)
-    → AreItemsOf commits (take n items) → All Allowed commits
-    → slice_get items n ≡ Some content → IsOther Allowed content
+    → AreItemsOf commits (take n items) → Allowed commits
+    → slice_get items n ≡ Some content → IsOther Allowed commits content
     → at ≡ 8 + length (wire (take n items)) → IsWrongAt Allowed items at
 wrong_behind Allowed items commits n content at are allowed found other place =
     wrong_from items commits n content are found Allowed at allowed other place
@@ -84,6 +94,6 @@ pub items_of_reads : (read : FileRead) (file : Option (List ℕ)) (commits : Lis
 items_of_reads = items_are
 
 -- a wrong place among its items is the file's
-pub wrong_of_items : (Allowed : CommitRecord → Type 0) (read : FileRead) (file : Option (List ℕ)) (at : ℕ)
+pub wrong_of_items : (Allowed : List CommitRecord → Type 0) (read : FileRead) (file : Option (List ℕ)) (at : ℕ)
     → IsRead read → file ≡ Some read.bytes → IsWrongAt Allowed read.items at → IsWrong Allowed at file
 wrong_of_items = wrong_read

@@ -1,13 +1,12 @@
 -- The items of a log and its commits.
-use Rattle.std.proofs.Common.{◌≡◌, ℕ, zero, suc, not, List, [], ◌∷◌, ◌++◌, length, take, Option, Some, refl, sym, ap, ◌∙◌, subst, inl, inr}
-use Rattle.std.specs.Prelude.{All}
-use Rattle.std.proofs.lemmas.List.Elements.{All-nil, All-cons, All-head, All-tail}
+use Rattle.std.proofs.Common.{◌≡◌, ◌⊎◌, ℕ, zero, suc, not, List, [], ◌∷◌, ◌++◌, length, take, Option, Some, refl, sym, ap, ◌∙◌, subst, inl, inr, append_assoc}
 use Rattle.log_items.specs.Items.{HasItems}
 use Rattle.log_items.proofs.Unique.{one_list, file_not_bad}
 use Rattle.disk_logs.specs.Logs.{FileRead, IsRead}
 use Rattle.db_model.specs.Commits.{CommitRecord}
 use Rattle.txn_log.specs.Commits.{IsCommit, AreCommits, AreItemsOf}
-use Rattle.txn_log.specs.Logs.{Reads, IsAny, IsOther, IsWrongFrom, IsWrongAt, IsWrong}
+use Rattle.txn_log.specs.Logs.{Reads, IsOther, IsWrongFrom, IsWrongAt, IsWrong}
+use Rattle.txn_log.proofs.CommitsRead.{same_content}
 
 count_commits : (commits : List CommitRecord) (contents : List (List ℕ)) → AreCommits commits contents
     → length contents ≡ length commits
@@ -51,26 +50,64 @@ pub items_one_more : (commits : List CommitRecord) (items : List (List ℕ)) (co
 items_one_more commits [] commit content h one = absurd h
 items_one_more commits (first ∷ contents) commit content h one = (h.0, commits_more commits contents commit content h.1 one)
 
+-- ---- what is allowed
+
+-- where commits are allowed, so are the first ones of them
+abbrev pub AllowsFirst : (List CommitRecord → Type 0) → Type 0
+AllowsFirst Allowed = (commits more : List CommitRecord) → Allowed (commits ++ more) → Allowed commits
+
+-- behind allowed commits it can be told whether one more is allowed
+abbrev pub TellsNext : (List CommitRecord → Type 0) → Type 0
+TellsNext Allowed = (commits : List CommitRecord) (commit : CommitRecord) → Allowed commits
+    → Allowed (commits ++ commit ∷ []) ⊎ (Allowed (commits ++ commit ∷ []) → ⊥)
+
 -- ---- commits or a wrong item
 
-module _ (Allowed : CommitRecord → Type 0) where
+-- among these commits, the one behind the front is that of the content
+record HasNext (commits front : List CommitRecord) (content : List ℕ) : Type 0 where
+  commit : CommitRecord
+  others : List CommitRecord
+  is : commits ≡ front ++ commit ∷ others
+  text : IsCommit content commit
+
+next_of : (commits some : List CommitRecord) (contents front : List (List ℕ)) (other : List ℕ) (others : List (List ℕ))
+    → AreCommits commits contents → AreCommits some front → contents ≡ front ++ other ∷ others
+    → HasNext commits some other
+next_of commits [] contents (x ∷ front) other others s t is = absurd t
+next_of commits (y ∷ some) contents [] other others s t is = absurd t
+next_of [] [] [] [] other others s t is = absurd (cc)
+next_of [] [] (content ∷ contents) [] other others s t is = absurd s
+next_of (commit ∷ commits) [] [] [] other others s t is = absurd s
+next_of (commit ∷ commits) [] (content ∷ contents) [] other others s t is =
+    let same : content ≡ other = cc in
+    record { commit = commit; others = commits; is = refl; text = subst (λ x. IsCommit x commit) same s.0 }
+next_of [] (y ∷ some) [] (x ∷ front) other others s t is = absurd (cc)
+next_of [] (y ∷ some) (content ∷ contents) (x ∷ front) other others s t is = absurd s
+next_of (commit ∷ commits) (y ∷ some) [] (x ∷ front) other others s t is = absurd s
+next_of (commit ∷ commits) (y ∷ some) (content ∷ contents) (x ∷ front) other others s t is =
+    let same : content ≡ x = cc in
+    let rest = next_of commits some contents front other others s.1 t.1 (cc) in
+    let first = same_content x commit y (subst (λ z. IsCommit z commit) same s.0) t.0 in
+    record {
+      commit = rest.commit;
+      others = rest.others;
+      is = λ i. first i ∷ rest.is i;
+      text = rest.text;
+    }
+
+module _ (Allowed : List CommitRecord → Type 0) (allows_first : AllowsFirst Allowed) where
   -- allowed commits have no other among them
-  no_other : (commits some : List CommitRecord) (contents front : List (List ℕ)) (other : List ℕ)
-      (others : List (List ℕ)) → AreCommits commits contents → All Allowed commits
-      → AreCommits some front → IsOther Allowed other → contents ≡ front ++ other ∷ others → ⊥
-  no_other [] some [] [] other others s allowed t none is = absurd (cc)
-  no_other [] some [] (x ∷ front) other others s allowed t none is = absurd (cc)
-  no_other [] some (content ∷ contents) front other others s allowed t none is = absurd s
-  no_other (commit ∷ commits) some [] front other others s allowed t none is = absurd s
-  no_other (commit ∷ commits) some (content ∷ contents) [] other others s allowed t none is =
-      let same : content ≡ other = cc in
-      none commit (All-head Allowed commit commits allowed) (subst (λ x. IsCommit x commit) same s.0)
-  no_other (commit ∷ commits) [] (content ∷ contents) (x ∷ front) other others s allowed t none is = absurd t
-  no_other (commit ∷ commits) (y ∷ some) (content ∷ contents) (x ∷ front) other others s allowed t none is =
-      no_other commits some contents front other others s.1 (All-tail Allowed commit commits allowed) t.1 none (cc)
+  pub no_other : (commits some : List CommitRecord) (contents front : List (List ℕ)) (other : List ℕ)
+      (others : List (List ℕ)) → AreCommits commits contents → Allowed commits
+      → AreCommits some front → IsOther Allowed some other → contents ≡ front ++ other ∷ others → ⊥
+  no_other commits some contents front other others s allowed t none is =
+      let next = next_of commits some contents front other others s t is in
+      let more = append_assoc some (next.commit ∷ []) next.others in
+      none next.commit
+      (allows_first (some ++ next.commit ∷ []) next.others (subst Allowed (next.is ∙ sym more) allowed)) next.text
 
   not_wrong : (commits : List CommitRecord) (items : List (List ℕ)) (n : ℕ) → AreItemsOf commits items
-      → All Allowed commits → IsWrongFrom Allowed items n → ⊥
+      → Allowed commits → IsWrongFrom Allowed items n → ⊥
   not_wrong commits [] n s allowed wrong = absurd s
   not_wrong commits (first ∷ contents) n s allowed (inl (zero_is, none)) = none first contents refl s.0
   not_wrong commits (first ∷ contents) n s allowed (inr h) = by h.front h.are h.is
@@ -78,10 +115,6 @@ module _ (Allowed : CommitRecord → Type 0) where
       by : (front : List (List ℕ)) → AreItemsOf h.commits front → first ∷ contents ≡ front ++ h.other ∷ h.others → ⊥
       by [] t is = absurd t
       by (x ∷ front) t is = no_other commits h.commits contents front h.other h.others s.1 allowed t.1 h.bad (cc)
-
-pub all_any : (commits : List CommitRecord) → All IsAny commits
-all_any [] = All-nil IsAny
-all_any (commit ∷ commits) = All-cons IsAny commit commits tt (all_any commits)
 
 some_is : {T : Type 0} (x y : T) → Some x ≡ Some y → x ≡ y
 some_is x y h = cc
@@ -93,14 +126,15 @@ one_items file bytes texts items others there here listed also =
     one_list texts items others (subst (λ b. HasItems b items) (some_is bytes texts (sym there ∙ here)) listed) also
 
 -- a log of allowed commits is wrong nowhere
-pub log_not_wrong : (Allowed : CommitRecord → Type 0) (file : Option (List ℕ)) (commits : List CommitRecord) (at : ℕ)
-    → Reads commits file → All Allowed commits → IsWrong Allowed at file → ⊥
-log_not_wrong Allowed file commits at (inl (none, is)) allowed (texts, here, wrong) = absurd (cc)
-log_not_wrong Allowed file commits at (inr (bytes, there, (items, are, has))) allowed (texts, here, inl bad) =
+pub log_not_wrong : (Allowed : List CommitRecord → Type 0) → AllowsFirst Allowed → (file : Option (List ℕ))
+    (commits : List CommitRecord) (at : ℕ) → Reads commits file → Allowed commits → IsWrong Allowed at file → ⊥
+log_not_wrong Allowed allows_first file commits at (inl (none, is)) allowed (texts, here, wrong) = absurd (cc)
+log_not_wrong Allowed allows_first file commits at (inr (bytes, there, (items, are, has))) allowed (texts, here, inl bad) =
     file_not_bad texts items at (subst (λ b. HasItems b items) (some_is bytes texts (sym there ∙ here)) has) bad
-log_not_wrong Allowed file commits at (inr (bytes, there, (items, are, has))) allowed (texts, here, inr (others, also, wrong)) =
+log_not_wrong Allowed allows_first file commits at (inr (bytes, there, (items, are, has))) allowed
+    (texts, here, inr (others, also, wrong)) =
     let same = one_items file bytes texts items others there here has also in
-    not_wrong Allowed commits others wrong.number (subst (AreItemsOf commits) same are) allowed wrong.wrong
+    not_wrong Allowed allows_first commits others wrong.number (subst (AreItemsOf commits) same are) allowed wrong.wrong
 
 -- ---- a file that was read
 
@@ -117,6 +151,6 @@ pub reads_as : (read : FileRead) (file : Option (List ℕ)) (commits : List Comm
 reads_as read file commits whole there are = inr (read.bytes, there, (read.items, are, (not read.was_open, whole)))
 
 -- its wrong place is the file's
-pub wrong_read : (Allowed : CommitRecord → Type 0) (read : FileRead) (file : Option (List ℕ)) (at : ℕ) → IsRead read
+pub wrong_read : (Allowed : List CommitRecord → Type 0) (read : FileRead) (file : Option (List ℕ)) (at : ℕ) → IsRead read
     → file ≡ Some read.bytes → IsWrongAt Allowed read.items at → IsWrong Allowed at file
 wrong_read Allowed read file at whole there wrong = (read.bytes, there, inr (read.items, (not read.was_open, whole), wrong))

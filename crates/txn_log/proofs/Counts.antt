@@ -1,6 +1,6 @@
 -- How the items of a log are read, one after another.
 use Rattle.std.proofs.Common.{◌≡◌, ℕ, zero, suc, ◌+◌, ◌≤◌, List, [], ◌∷◌, ◌++◌, length, take, drop, Some, sym, ap, ◌∙◌, subst, inr, arith}
-use Rattle.std.specs.Prelude.{slice_get, All}
+use Rattle.std.specs.Prelude.{slice_get}
 use Rattle.std.proofs.lemmas.List.{take-append-drop, length-take-le}
 use Rattle.log_items.specs.Items.{wire}
 use Rattle.db_model.specs.Commits.{CommitRecord}
@@ -27,7 +27,7 @@ within (first ∷ items) (suc n) content is = omega (arith, within items n conte
 
 module _ (items : List (List ℕ)) (commits : List CommitRecord) (n : ℕ) (content : List ℕ)
     (are : AreItemsOf commits (take n items)) (found : slice_get items n ≡ Some content) where
-  pub wrong_from : (Allowed : CommitRecord → Type 0) (at : ℕ) → All Allowed commits → IsOther Allowed content
+  pub wrong_from : (Allowed : List CommitRecord → Type 0) (at : ℕ) → Allowed commits → IsOther Allowed commits content
       → at ≡ 8 + length (wire (take n items)) → IsWrongAt Allowed items at
   wrong_from Allowed at allowed other place = record {
     number = n;

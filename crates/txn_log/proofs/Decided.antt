@@ -1,12 +1,10 @@
 -- A file is a log of allowed commits, or has a first wrong place.
-use Rattle.std.proofs.Common.{◌≡◌, ◌⊎◌, ℕ, ◌+◌, ◌^◌, ◌<◌, ◌≤◌, pos, List, [], ◌∷◌, ◌++◌, length, take, map, codes, Option, None, Some, Result, Ok, Err, refl, sym, ap, ◌∙◌, subst, inl, inr, arith}
+use Rattle.std.proofs.Common.{◌≡◌, ◌⊎◌, ℕ, ◌+◌, ◌^◌, ◌<◌, List, [], ◌∷◌, ◌++◌, length, take, map, Option, None, Some, Result, Ok, Err, refl, sym, ap, ◌∙◌, subst, inl, inr, arith, append-nil, append_assoc}
 use Rattle.std.specs.Prelude.{All}
-use Rattle.std.specs.Char.{IsAsciiAlphanumeric}
-use Rattle.std.proofs.lemmas.Bool.{cases_Bool, cases_lt}
+use Rattle.std.proofs.lemmas.Bool.{cases_lt}
 use Rattle.std.proofs.lemmas.List.Elements.{All-cons, All-nil, All-head, All-tail}
-use Rattle.term_core.specs.Tree.{Tree, int, atom, Trees, no_trees, tree, text, inner}
+use Rattle.term_core.specs.Tree.{Tree, Trees, no_trees, tree, text, inner}
 use Rattle.term_core.specs.View.{trees_of}
-use Rattle.term_core.specs.Order.{same_tree, same_tree_is}
 use Rattle.term_wire.specs.Decoding.{read}
 use Rattle.term_wire.specs.declared.error.WireErr.{WireErr}
 use Rattle.term_wire.specs.Spelling.{AreBytes, IsText}
@@ -16,32 +14,25 @@ use Rattle.term_wire.proofs.Law.{IsByte}
 use Rattle.term_wire.proofs.Texts.{text_bytes}
 use Rattle.log_items.specs.Items.{wire}
 use Rattle.log_items.proofs.Unique.{file_or_bad}
-use Rattle.db_model.specs.Commits.{CommitRecord}
-use Rattle.db_model.specs.Names.{IsNameByte, IsName, IsTableName}
+use Rattle.db_model.specs.Commits.{SchemaOperation, CommitRecord}
+use Rattle.db_model.specs.Names.{IsTableName}
 use Rattle.db_model.specs.Ops.{Operation, write, delete, delete_object, clear, table_of, op_tree, HasNoOp, IsOp, IsNoOp}
 use Rattle.db_model.proofs.Shapes.{same_op}
-use Rattle.txn_log.specs.Commits.{IsNamed, IsCommit, IsNoCommit, AreCommits, AreItemsOf, HasCommit, HasNoCommit, IsHead, commit_shape, commit_tree, log_head}
+use Rattle.txn_log.specs.Commits.{IsNamed, IsCommit, IsNoCommit, AreSchemaOps, AreNoSchemaOps, AreCommits, AreItemsOf, HasCommit, HasNoCommit, IsHead, commit_shape, log_head}
 use Rattle.txn_log.specs.Logs.{Reads, IsOther, IsWrongFrom, IsWrong}
-use Rattle.txn_log.proofs.CommitsRead.{same_content}
+use Rattle.txn_log.proofs.CommitLists.{TellsNext}
+use Rattle.txn_log.proofs.CommitsRead.{same_content, all_formed}
+use Rattle.txn_log.proofs.Deciding.{tree_or_not, all_or_not, table_or_not, second, third, fourth, number_in, list_of, list_back, trees_back}
+use Rattle.txn_log.proofs.SchemaDecided.{schema_ops_or_not}
 
--- ---- trees and texts
+-- ---- texts
 
-tree_or_not : (s t : Tree) → (s ≡ t) ⊎ (s ≡ t → ⊥)
-tree_or_not s t = elim (cases_Bool (same_tree s t)) [
-  | inl same ↦ inl ((same_tree_is s t).0 same)
-  | inr fails ↦ inr (λ same. cc ((same_tree_is s t).1 same, fails))
-]
+byte_or_not : (n : ℕ) → IsByte n ⊎ (IsByte n → ⊥)
+byte_or_not n = elim (cases_lt n 256) [ inl small ↦ inl small | inr large ↦ inr (λ h. omega (arith, h, large)) ]
 
 -- a list of bytes, or with another number
 bytes_or_not : (content : List ℕ) → AreBytes content ⊎ (AreBytes content → ⊥)
-bytes_or_not [] = inl (All-nil IsByte)
-bytes_or_not (byte ∷ content) = elim (cases_lt byte 256) [
-  | inr large ↦ inr (λ h. let small : byte < 256 = All-head IsByte byte content h in omega (arith, small, large))
-  | inl small ↦ elim (bytes_or_not content) [
-    | inl rest ↦ inl (All-cons IsByte byte content small rest)
-    | inr other ↦ inr (λ h. other (All-tail IsByte byte content h))
-  ]
-]
+bytes_or_not = all_or_not IsByte byte_or_not
 
 -- the content is a text of no tree
 abbrev IsNoText : List ℕ → Type 0
@@ -62,79 +53,7 @@ some_text content = by (read content) refl
     by (Err e) is = inr (λ t text. let found = read_again content t text in cc (found, is))
     by (Ok t) is = elim (text_or_not content t is) [ inl text ↦ inl (t, text) | inr none ↦ inr none ]
 
--- ---- names
-
-within_or_not : (low high n : ℕ) → ((low ≤ n) × (n ≤ high)) ⊎ ((low ≤ n) × (n ≤ high) → ⊥)
-within_or_not low high n = elim (cases_lt n low) [
-  | inl under ↦ inr (λ h. omega (arith, h.0, under))
-  | inr least ↦ elim (cases_lt high n) [ inl over ↦ inr (λ h. omega (arith, h.1, over)) | inr most ↦ inl (least, most) ]
-]
-
-either_or_not : {P Q : Type 0} → P ⊎ (P → ⊥) → Q ⊎ (Q → ⊥) → (P ⊎ Q) ⊎ (P ⊎ Q → ⊥)
-either_or_not p q = elim p [
-  | inl is ↦ inl (inl is)
-  | inr fails ↦ elim q [ inl is ↦ inl (inr is) | inr none ↦ inr (λ h. elim h [ inl is ↦ fails is | inr is ↦ none is ]) ]
-]
-
-both_or_not : {P Q : Type 0} → P ⊎ (P → ⊥) → Q ⊎ (Q → ⊥) → (P × Q) ⊎ (P × Q → ⊥)
-both_or_not p q = elim p [
-  | inr fails ↦ inr (λ h. fails h.0)
-  | inl is ↦ elim q [ inl also ↦ inl (is, also) | inr fails ↦ inr (λ h. fails h.1) ]
-]
-
-number_or_not : (n m : ℕ) → (n ≡ m) ⊎ (n ≡ m → ⊥)
-number_or_not n m = elim (within_or_not m m n) [
-  | inl same ↦ inl (omega (arith, same.0, same.1))
-  | inr other ↦ inr (λ is. other (omega (arith, is), omega (arith, is)))
-]
-
-letter_or_not : (byte : ℕ) → IsAsciiAlphanumeric byte ⊎ (IsAsciiAlphanumeric byte → ⊥)
-letter_or_not byte = either_or_not (either_or_not (within_or_not 48 57 byte) (within_or_not 65 90 byte)) (within_or_not 97 122 byte)
-
-name_byte_or_not : (byte : ℕ) → IsNameByte byte ⊎ (IsNameByte byte → ⊥)
-name_byte_or_not byte = either_or_not (letter_or_not byte) (either_or_not (number_or_not byte 95) (number_or_not byte 64))
-
-name_bytes_or_not : (name : List ℕ) → All IsNameByte name ⊎ (All IsNameByte name → ⊥)
-name_bytes_or_not [] = inl (All-nil IsNameByte)
-name_bytes_or_not (byte ∷ name) = elim (name_byte_or_not byte) [
-  | inr fails ↦ inr (λ h. fails (All-head IsNameByte byte name h))
-  | inl is ↦ elim (name_bytes_or_not name) [
-    | inl rest ↦ inl (All-cons IsNameByte byte name is rest)
-    | inr other ↦ inr (λ h. other (All-tail IsNameByte byte name h))
-  ]
-]
-
-name_or_not : (name : List ℕ) → IsName name ⊎ (IsName name → ⊥)
-name_or_not name = elim (both_or_not (within_or_not 1 64 (length name)) (name_bytes_or_not name)) [
-  | inl is ↦ inl (record { some = omega (arith, is.0.0); few = is.0.1; bytes = is.1 })
-  | inr fails ↦ inr (λ h. fails ((omega (arith, h.some), h.few), h.bytes))
-]
-
-table_or_not : (name : List ℕ) → IsTableName name ⊎ (IsTableName name → ⊥)
-table_or_not name = both_or_not (name_or_not name) (elim (tree_or_not (atom name) (atom (codes "schema"))) [
-  | inl same ↦ inr (λ other. other (ap text same))
-  | inr other ↦ inl (λ same. other (ap atom same))
-])
-
 -- ---- an op
-
--- the elements of a tuple
-abbrev first_of : Trees → Tree
-first_of no_trees = atom []
-first_of (tree t ts) = t
-
-abbrev behind : Trees → Trees
-behind no_trees = no_trees
-behind (tree t ts) = ts
-
-abbrev second : Tree → Tree
-second t = first_of (behind (inner t))
-
-abbrev third : Tree → Tree
-third t = first_of (behind (behind (inner t)))
-
-abbrev fourth : Tree → Tree
-fourth t = first_of (behind (behind (behind (inner t))))
 
 -- the term of an op, whatever its table is called, or of none
 some_op : (t : Tree) → ((op : Operation) × (t ≡ op_tree op)) ⊎ HasNoOp t
@@ -211,51 +130,75 @@ ops_or_not (tree t ts) = elim (op_or_not t) [
 
 -- ---- a commit
 
-abbrev version_in : Tree → ℕ
-version_in (int (pos n)) = n
-version_in t = 0
-
 -- the term of a commit with these parts, or of none
-parts_or_not : (t : Tree) (version : ℕ) (ops : Trees) → t ≡ commit_shape version ops
-    → ((commit : CommitRecord) × HasCommit t commit) ⊎ HasNoCommit t
-parts_or_not t version ops is = elim (cases_lt version (2 ^ 64)) [
-  | inr large ↦ inr (λ commit has. let small = version_small commit has in omega (arith, small, large))
-  | inl small ↦ elim (ops_or_not ops) [
-    | inl found ↦ inl (
-      record { version = version; schema_operations = []; operations = found.0 },
-      (record { version = small; plain = refl; named = found.1.0 }, is ∙ ap (commit_shape version) found.1.1),
-    )
-    | inr none ↦ inr (λ commit has. none commit.operations (has.0.named, ops_are commit has))
+module _ (t : Tree) (version : ℕ) (schema ops : Trees) (is : t ≡ commit_shape version schema ops) where
+  version_small : (commit : CommitRecord) → HasCommit t commit → version < 2 ^ 64
+  version_small commit has =
+      subst (λ v. v < 2 ^ 64) (sym (ap (λ u. number_in (second u)) (sym is ∙ has.is))) has.logged.version
+
+  schema_terms_are : (commit : CommitRecord) (has : HasCommit t commit) → has.schema_terms ≡ list_of schema
+  schema_terms_are commit has =
+      sym (list_back has.schema_terms) ∙ ap (λ u. list_of (inner (third u))) (sym has.is ∙ is)
+
+  ops_are : (commit : CommitRecord) → HasCommit t commit → ops ≡ trees_of (map op_tree commit.operations)
+  ops_are commit has = ap (λ u. inner (fourth u)) (sym is ∙ has.is)
+
+  no_schema : AreNoSchemaOps (list_of schema) → HasNoCommit t
+  no_schema none commit has = none commit.schema_operations
+      (subst (λ ts. AreSchemaOps ts commit.schema_operations) (schema_terms_are commit has) has.schema_ops)
+
+  commit_of : (schema_ops : List SchemaOperation) (operations : List Operation) → version < 2 ^ 64
+      → AreSchemaOps (list_of schema) schema_ops → AreOpsOf ops operations
+      → (commit : CommitRecord) × HasCommit t commit
+  commit_of schema_ops operations small are given = (
+    record { version = version; schema_operations = schema_ops; operations = operations },
+    record {
+      logged = record { version = small; formed = all_formed (list_of schema) schema_ops are; named = given.0 };
+      schema_terms = list_of schema;
+      schema_ops = are;
+      is = is ∙ λ i. commit_shape version (sym (trees_back schema) i) (given.1 i);
+    },
+  )
+
+  parts_or_not : ((commit : CommitRecord) × HasCommit t commit) ⊎ HasNoCommit t
+  parts_or_not = elim (cases_lt version (2 ^ 64)) [
+    | inr large ↦ inr (λ commit has. let small = version_small commit has in omega (arith, small, large))
+    | inl small ↦ elim (schema_ops_or_not (list_of schema)) [
+      | inr none ↦ inr (no_schema none)
+      | inl first ↦ elim (ops_or_not ops) [
+        | inl found ↦ inl (commit_of first.0 found.0 small first.1 found.1)
+        | inr none ↦ inr (λ commit has. none commit.operations (has.logged.named, ops_are commit has))
+      ]
+    ]
   ]
-]
-  where
-    version_is : (commit : CommitRecord) → HasCommit t commit → version ≡ commit.version
-    version_is commit has = ap (λ u. version_in (second u)) (sym is ∙ has.1)
-
-    version_small : (commit : CommitRecord) → HasCommit t commit → version < 2 ^ 64
-    version_small commit has = subst (λ v. v < 2 ^ 64) (sym (version_is commit has)) has.0.version
-
-    ops_are : (commit : CommitRecord) → HasCommit t commit → ops ≡ trees_of (map op_tree commit.operations)
-    ops_are commit has = ap (λ u. inner (fourth u)) (sym is ∙ has.1)
 
 tree_decided : (t : Tree) → ((commit : CommitRecord) × HasCommit t commit) ⊎ HasNoCommit t
-tree_decided t = elim (tree_or_not t (commit_shape version ops)) [
-  | inl is ↦ parts_or_not t version ops is
-  | inr other ↦ inr (λ commit has. other (has.1 ∙ λ i. commit_shape (version_in (second (sym has.1 i))) (inner (fourth (sym has.1 i)))))
+tree_decided t = elim (tree_or_not t (commit_shape version schema ops)) [
+  | inl is ↦ parts_or_not t version schema ops is
+  | inr other ↦ inr (λ commit has. other (shape commit has))
 ]
   where
     version : ℕ
-    version = version_in (second t)
+    version = number_in (second t)
+
+    schema : Trees
+    schema = inner (third t)
 
     ops : Trees
     ops = inner (fourth t)
 
+    shape : (commit : CommitRecord) → HasCommit t commit → t ≡ commit_shape version schema ops
+    shape commit has =
+        has.is
+        ∙ λ i. commit_shape (number_in (second (sym has.is i))) (inner (third (sym has.is i))) (inner (fourth (sym has.is i)))
+
 pub commit_decided : (content : List ℕ) → ((commit : CommitRecord) × IsCommit content commit) ⊎ IsNoCommit content
 commit_decided content = elim (some_text content) [
-  | inr none ↦ inr (λ commit is. none (commit_tree commit) is.1)
+  | inr none ↦ inr (λ commit is. none is.0 is.1)
   | inl found ↦ elim (tree_decided found.0) [
-    | inl has ↦ inl (has.0, (has.1.0, subst (IsText content) has.1.1 found.1))
-    | inr none ↦ inr (λ commit is. none commit (is.0, one_tree content found.0 (commit_tree commit) found.1 is.1))
+    | inl has ↦ inl (has.0, (found.0, found.1, has.1))
+    | inr none ↦ inr (λ commit is.
+        none commit (subst (λ u. HasCommit u commit) (one_tree content is.0 found.0 is.1 found.1) is.2))
   ]
 ]
 
@@ -270,73 +213,87 @@ head_decided content = elim (some_text content) [
 
 -- ---- a file
 
-module _ (Allowed : CommitRecord → Type 0)
-    (told : (commit : CommitRecord) → Allowed commit ⊎ (Allowed commit → ⊥)) where
-  allowed_decided : (content : List ℕ)
-      → ((commit : CommitRecord) × Allowed commit × IsCommit content commit) ⊎ IsOther Allowed content
-  allowed_decided content = elim (commit_decided content) [
-    | inr none ↦ inr (λ commit allowed is. none commit is)
-    | inl found ↦ elim (told found.0) [
-      | inl allowed ↦ inl (found.0, allowed, found.1)
-      | inr fails ↦ inr (λ commit allowed is. fails (subst Allowed (same_content content commit found.0 is found.1) allowed))
+module _ (Allowed : List CommitRecord → Type 0) (told : TellsNext Allowed) where
+  allowed_decided : (before : List CommitRecord) → Allowed before → (content : List ℕ)
+      → ((commit : CommitRecord) × Allowed (before ++ commit ∷ []) × IsCommit content commit)
+      ⊎ IsOther Allowed before content
+  allowed_decided before allowed content = elim (commit_decided content) [
+    | inr none ↦ inr (λ commit also is. none commit is)
+    | inl found ↦ elim (told before found.0 allowed) [
+      | inl also ↦ inl (found.0, also, found.1)
+      | inr fails ↦ inr (λ commit also is.
+          fails (subst (λ c. Allowed (before ++ c ∷ [])) (same_content content commit found.0 is found.1) also))
     ]
   ]
 
-  -- allowed commits to the end, or one that is none behind them
-  record AllAllowed (items : List (List ℕ)) : Type 0 where
+  -- behind the commits before, allowed ones to the end, or one that is none behind allowed ones
+  record AllAllowed (before : List CommitRecord) (items : List (List ℕ)) : Type 0 where
     commits : List CommitRecord
     are : AreCommits commits items
-    allowed : All Allowed commits
+    allowed : Allowed (before ++ commits)
 
-  record SomeOther (items : List (List ℕ)) : Type 0 where
+  record SomeOther (before : List CommitRecord) (items : List (List ℕ)) : Type 0 where
     commits : List CommitRecord
     front : List (List ℕ)
     other : List ℕ
     others : List (List ℕ)
     are : AreCommits commits front
-    allowed : All Allowed commits
-    bad : IsOther Allowed other
+    allowed : Allowed (before ++ commits)
+    bad : IsOther Allowed (before ++ commits) other
     is : items ≡ front ++ other ∷ others
 
-  items_decided : (items : List (List ℕ)) → AllAllowed items ⊎ SomeOther items
-  items_decided [] = inl (record { commits = []; are = tt; allowed = All-nil Allowed })
-  items_decided (item ∷ items) = elim (allowed_decided item) [
-    | inr none ↦ inr (record {
+  module _ (before : List CommitRecord) (item : List ℕ) (items : List (List ℕ)) where
+    other_here : Allowed before → IsOther Allowed before item → SomeOther before (item ∷ items)
+    other_here allowed none = record {
       commits = [];
       front = [];
       other = item;
       others = items;
       are = tt;
-      allowed = All-nil Allowed;
-      bad = none;
+      allowed = subst Allowed (sym (append-nil before)) allowed;
+      bad = subst (λ cs. IsOther Allowed cs item) (sym (append-nil before)) none;
       is = refl;
-    })
-    | inl found ↦ elim (items_decided items) [
-      | inl rest ↦ inl (record {
-        commits = found.0 ∷ rest.commits;
-        are = (found.2, rest.are);
-        allowed = All-cons Allowed found.0 rest.commits found.1 rest.allowed;
-      })
-      | inr rest ↦ inr (record {
-        commits = found.0 ∷ rest.commits;
+    }
+
+    module _ (commit : CommitRecord) (one : IsCommit item commit) where
+      all_behind : AllAllowed (before ++ commit ∷ []) items → AllAllowed before (item ∷ items)
+      all_behind rest = record {
+        commits = commit ∷ rest.commits;
+        are = (one, rest.are);
+        allowed = subst Allowed (append_assoc before (commit ∷ []) rest.commits) rest.allowed;
+      }
+
+      other_behind : SomeOther (before ++ commit ∷ []) items → SomeOther before (item ∷ items)
+      other_behind rest = record {
+        commits = commit ∷ rest.commits;
         front = item ∷ rest.front;
         other = rest.other;
         others = rest.others;
-        are = (found.2, rest.are);
-        allowed = All-cons Allowed found.0 rest.commits found.1 rest.allowed;
-        bad = rest.bad;
+        are = (one, rest.are);
+        allowed = subst Allowed (append_assoc before (commit ∷ []) rest.commits) rest.allowed;
+        bad = subst (λ cs. IsOther Allowed cs rest.other) (append_assoc before (commit ∷ []) rest.commits) rest.bad;
         is = ap (λ xs. item ∷ xs) rest.is;
-      })
+      }
+
+  items_decided : (before : List CommitRecord) → Allowed before → (items : List (List ℕ))
+      → AllAllowed before items ⊎ SomeOther before items
+  items_decided before allowed [] =
+      inl (record { commits = []; are = tt; allowed = subst Allowed (sym (append-nil before)) allowed })
+  items_decided before allowed (item ∷ items) = elim (allowed_decided before allowed item) [
+    | inr none ↦ inr (other_here before item items allowed none)
+    | inl found ↦ elim (items_decided (before ++ found.0 ∷ []) found.1 items) [
+      | inl rest ↦ inl (all_behind before item items found.0 found.2 rest)
+      | inr rest ↦ inr (other_behind before item items found.0 found.2 rest)
     ]
   ]
 
-  log_decided : (items : List (List ℕ))
-      → ((commits : List CommitRecord) × AreItemsOf commits items × All Allowed commits)
+  log_decided : Allowed [] → (items : List (List ℕ))
+      → ((commits : List CommitRecord) × AreItemsOf commits items × Allowed commits)
       ⊎ ((n : ℕ) × IsWrongFrom Allowed items n)
-  log_decided [] = inr (0, inl (refl, λ first others same head. cc same))
-  log_decided (first ∷ items) = elim (head_decided first) [
+  log_decided allowed [] = inr (0, inl (refl, λ first others same head. cc same))
+  log_decided allowed (first ∷ items) = elim (head_decided first) [
     | inr other ↦ inr (0, inl (refl, λ x others same head. let is : x ≡ first = cc in other (subst IsHead is head)))
-    | inl head ↦ elim (items_decided items) [
+    | inl head ↦ elim (items_decided [] allowed items) [
       | inl rest ↦ inl (rest.commits, (head, rest.are), rest.allowed)
       | inr rest ↦ inr (
         length (first ∷ rest.front),
@@ -355,13 +312,13 @@ module _ (Allowed : CommitRecord → Type 0)
     ]
   ]
 
-  pub file_decided : (file : Option (List ℕ))
-      → ((commits : List CommitRecord) × Reads commits file × All Allowed commits)
+  pub file_decided : Allowed [] → (file : Option (List ℕ))
+      → ((commits : List CommitRecord) × Reads commits file × Allowed commits)
       ⊎ ((at : ℕ) × IsWrong Allowed at file)
-  file_decided None = inl ([], inl (refl, refl), All-nil Allowed)
-  file_decided (Some bytes) = elim (file_or_bad bytes) [
+  file_decided allowed None = inl ([], inl (refl, refl), allowed)
+  file_decided allowed (Some bytes) = elim (file_or_bad bytes) [
     | inr (at, bad) ↦ inr (at, (bytes, refl, inl bad))
-    | inl (items, listed) ↦ elim (log_decided items) [
+    | inl (items, listed) ↦ elim (log_decided allowed items) [
       | inl log ↦ inl (log.0, inr (bytes, refl, (items, log.1, listed)), log.2)
       | inr wrong ↦ inr (
         8 + length (wire (take wrong.0 items)),

@@ -5,9 +5,12 @@ pub mod CommitText
 pub mod CommitsRead
 pub mod Counts
 pub mod Decided
+pub mod Deciding
 pub mod FirstItem
+pub mod Levels
 pub mod LogName
 pub mod Making
 pub mod OneLog
 pub mod Opening
 pub mod Reading
+pub mod SchemaDecided

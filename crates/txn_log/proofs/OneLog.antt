@@ -1,14 +1,12 @@
 -- A file has one list of commits, or one first wrong place.
 use Rattle.std.proofs.Common.{◌≡◌, ◌⊎◌, ℕ, suc, ◌+◌, List, [], ◌∷◌, ◌++◌, length, take, Option, Some, refl, sym, ap, ◌∙◌, subst, inl, inr}
-use Rattle.std.specs.Prelude.{All}
-use Rattle.std.proofs.lemmas.List.Elements.{All-head, All-tail}
 use Rattle.log_items.specs.Items.{wire, HasItems}
 use Rattle.log_items.specs.Scan.{IsBadAt}
 use Rattle.log_items.proofs.Unique.{one_list, file_not_bad, one_place}
 use Rattle.db_model.specs.Commits.{CommitRecord}
-use Rattle.txn_log.specs.Commits.{IsCommit, AreCommits, AreItemsOf}
+use Rattle.txn_log.specs.Commits.{AreCommits, AreItemsOf}
 use Rattle.txn_log.specs.Logs.{Reads, LacksHead, IsOther, IsWrongFrom, IsWrongAt, IsWrong}
-use Rattle.txn_log.proofs.CommitLists.{one_items}
+use Rattle.txn_log.proofs.CommitLists.{AllowsFirst, no_other, one_items}
 use Rattle.txn_log.proofs.CommitsRead.{same_items}
 
 pub one_list_read : (file : Option (List ℕ)) (commits more : List CommitRecord) → Reads commits file → Reads more file
@@ -27,26 +25,40 @@ no_head : (commits : List CommitRecord) (items front : List (List ℕ)) (others 
 no_head commits items [] others none h is = h
 no_head commits items (first ∷ front) others none h is = none first (front ++ others) is h.0
 
-module _ (Allowed : CommitRecord → Type 0) where
+-- of two lists that go on with these, neither front is shorter, or one has the other's next
+abbrev FrontsAre : (front back : List (List ℕ)) (x y : List ℕ) → Type 0
+FrontsAre front back x y = (length front ≡ length back)
+    ⊎ ((rest : List (List ℕ)) × (back ≡ front ++ x ∷ rest))
+    ⊎ ((rest : List (List ℕ)) × (front ≡ back ++ y ∷ rest))
+
+fronts_are : (front back : List (List ℕ)) (x y : List ℕ) (xs ys : List (List ℕ))
+    → front ++ x ∷ xs ≡ back ++ y ∷ ys → FrontsAre front back x y
+fronts_are [] [] x y xs ys is = inl refl
+fronts_are [] (z ∷ back) x y xs ys is =
+    let same : z ≡ x = cc in inr (inl (back, ap (λ w. w ∷ back) same))
+fronts_are (z ∷ front) [] x y xs ys is =
+    let same : z ≡ y = cc in inr (inr (front, ap (λ w. w ∷ front) same))
+fronts_are (z ∷ front) (w ∷ back) x y xs ys is =
+    let first : z ≡ w = cc in
+    elim (fronts_are front back x y xs ys (cc)) [
+      | inl same ↦ inl (ap suc same)
+      | inr longer ↦ inr (elim longer [
+        | inl (rest, same) ↦ inl (rest, λ i. sym first i ∷ same i)
+        | inr (rest, same) ↦ inr (rest, λ i. first i ∷ same i)
+      ])
+    ]
+
+module _ (Allowed : List CommitRecord → Type 0) (allows_first : AllowsFirst Allowed) where
   one_wrong : (commits more : List CommitRecord) (front back : List (List ℕ)) (x y : List ℕ) (xs ys : List (List ℕ))
-      → AreCommits commits front → AreCommits more back
-      → All Allowed commits → All Allowed more → IsOther Allowed x → IsOther Allowed y
-      → front ++ x ∷ xs ≡ back ++ y ∷ ys → length front ≡ length back
-  one_wrong commits more [] [] x y xs ys p q g h a b is = refl
-  one_wrong commits [] [] (z ∷ back) x y xs ys p q g h a b is = absurd q
-  one_wrong commits (other ∷ more) [] (z ∷ back) x y xs ys p q g h a b is =
-      let same : z ≡ x = cc in
-      absurd (a other (All-head Allowed other more h) (subst (λ content. IsCommit content other) same q.0))
-  one_wrong [] more (z ∷ front) [] x y xs ys p q g h a b is = absurd p
-  one_wrong (commit ∷ commits) more (z ∷ front) [] x y xs ys p q g h a b is =
-      let same : z ≡ y = cc in
-      absurd (b commit (All-head Allowed commit commits g) (subst (λ content. IsCommit content commit) same p.0))
-  one_wrong [] more (z ∷ front) (w ∷ back) x y xs ys p q g h a b is = absurd p
-  one_wrong (commit ∷ commits) [] (z ∷ front) (w ∷ back) x y xs ys p q g h a b is = absurd q
-  one_wrong (commit ∷ commits) (other ∷ more) (z ∷ front) (w ∷ back) x y xs ys p q g h a b is =
-      let rest = All-tail Allowed commit commits g in
-      let rest_more = All-tail Allowed other more h in
-      ap suc (one_wrong commits more front back x y xs ys p.1 q.1 rest rest_more a b (cc))
+      → AreCommits commits front → AreCommits more back → Allowed commits → Allowed more
+      → IsOther Allowed commits x → IsOther Allowed more y → front ++ x ∷ xs ≡ back ++ y ∷ ys → length front ≡ length back
+  one_wrong commits more front back x y xs ys p q g h a b is = elim (fronts_are front back x y xs ys is) [
+    | inl same ↦ same
+    | inr longer ↦ elim longer [
+      | inl (rest, same) ↦ absurd (no_other Allowed allows_first more commits back front x rest q h p a same)
+      | inr (rest, same) ↦ absurd (no_other Allowed allows_first commits more front back y rest p g q b same)
+    ]
+  ]
 
   one_number : (items : List (List ℕ)) (m n : ℕ) → IsWrongFrom Allowed items m → IsWrongFrom Allowed items n → m ≡ n
   one_number items m n (inl (a, none)) (inl (b, also)) = a ∙ sym b

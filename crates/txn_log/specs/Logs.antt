@@ -1,5 +1,5 @@
 -- The log of the commits, and what a crash may leave of it.
-use Rattle.std.specs.Prelude.{◌≡◌, ◌⊎◌, ℕ, Bool, false, suc, All, ◌+◌, ◌≤◌, List, [], ◌∷◌, ◌++◌, length, take, codes, Option, None, Some, Result, Ok, Err}
+use Rattle.std.specs.Prelude.{◌≡◌, ◌⊎◌, ℕ, Bool, false, suc, ◌+◌, ◌≤◌, List, [], ◌∷◌, ◌++◌, length, take, codes, Option, None, Some, Result, Ok, Err}
 use Rattle.file_trait.specs.DiskModel.{Past, IsImage, Crashes}
 use Rattle.file_trait.specs.Shown.{ReadsAs}
 use Rattle.log_items.specs.Items.{wire, HasItems}
@@ -30,44 +30,48 @@ Reads commits file = ((file ≡ None) × (commits ≡ []))
 
 -- ---- files without a meaning
 
+-- Which commits a log may have is said of the list of them, from the first: what may stand in a place depends on what
+-- stands before it.
+
 -- the first item is missing, or not a log's
 abbrev pub LacksHead : List (List ℕ) → Type 0
 LacksHead items = (first : List ℕ) (others : List (List ℕ)) → items ≡ first ∷ others → IsHead first → ⊥
 
--- the content is a text of no commit that is allowed
-abbrev pub IsOther : (CommitRecord → Type 0) → List ℕ → Type 0
-IsOther Allowed content = (commit : CommitRecord) → Allowed commit → IsCommit content commit → ⊥
+-- behind these commits, the content is a text of no commit that is allowed there
+abbrev pub IsOther : (List CommitRecord → Type 0) → List CommitRecord → List ℕ → Type 0
+IsOther Allowed commits content =
+    (commit : CommitRecord) → Allowed (commits ++ commit ∷ []) → IsCommit content commit → ⊥
 
--- behind the first item stand commits that are allowed, and then, as item number n, one that is none
-pub record HasOther (Allowed : CommitRecord → Type 0) (items : List (List ℕ)) (n : ℕ) : Type 0 where
+-- behind the first item stand commits that are allowed, and then, as item number n, one that is none behind them
+pub record HasOther (Allowed : List CommitRecord → Type 0) (items : List (List ℕ)) (n : ℕ) : Type 0 where
   pub commits : List CommitRecord
   pub front : List (List ℕ)
   pub other : List ℕ
   pub others : List (List ℕ)
   pub are : AreItemsOf commits front
-  pub allowed : All Allowed commits
-  pub bad : IsOther Allowed other
+  pub allowed : Allowed commits
+  pub bad : IsOther Allowed commits other
   pub is : items ≡ front ++ other ∷ others
   pub number : n ≡ length front
 
 -- the first item that should not be there, or the missing one, is number n, counted from 0
-abbrev pub IsWrongFrom : (CommitRecord → Type 0) → List (List ℕ) → ℕ → Type 0
+abbrev pub IsWrongFrom : (List CommitRecord → Type 0) → List (List ℕ) → ℕ → Type 0
 IsWrongFrom Allowed items n = ((n ≡ 0) × LacksHead items) ⊎ HasOther Allowed items n
 
 -- such an item stands at this place, or would
-pub record IsWrongAt (Allowed : CommitRecord → Type 0) (items : List (List ℕ)) (at : ℕ) : Type 0 where
+pub record IsWrongAt (Allowed : List CommitRecord → Type 0) (items : List (List ℕ)) (at : ℕ) : Type 0 where
   pub number : ℕ
   pub wrong : IsWrongFrom Allowed items number
   pub place : at ≡ 8 + length (wire (take number items))
 
 -- the file is no log of commits that are allowed, from this place on
-abbrev pub IsWrong : (CommitRecord → Type 0) → ℕ → Option (List ℕ) → Type 0
+abbrev pub IsWrong : (List CommitRecord → Type 0) → ℕ → Option (List ℕ) → Type 0
 IsWrong Allowed at file = (bytes : List ℕ) × (file ≡ Some bytes)
     × (IsBadAt bytes at ⊎ ((items : List (List ℕ)) × HasItems bytes items × IsWrongAt Allowed items at))
 
--- every commit is allowed
-abbrev pub IsAny : CommitRecord → Type 0
-IsAny commit = Unit {0}
+-- all commits are allowed
+abbrev pub IsAny : List CommitRecord → Type 0
+IsAny commits = Unit {0}
 
 -- ---- crashes
 

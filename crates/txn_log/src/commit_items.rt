@@ -2,14 +2,14 @@
 
 ghost use Rattle.std.specs.Prelude.{◌≡◌, ◌⊎◌, ◌↔◌, ◌<◌, ◌≤◌, ◌^◌, ℕ, pos, length, map, IsTrue, IfOk, IfErr, IsErrOf, None, MatchOption};
 ghost use Rattle.term_core.specs.Tree as trees;
-ghost use Rattle.term_core.specs.Tree.{Trees, depth, no_trees};
+ghost use Rattle.term_core.specs.Tree.{Trees, depth};
 ghost use Rattle.term_core.specs.View.{tree_of, forest_of};
-ghost use Rattle.db_model.specs.View.{operation, commit_record};
+ghost use Rattle.db_model.specs.View.{operation, schema_operation, commit_record};
 ghost use Rattle.db_model.specs.Commits.{CommitRecord};
 ghost use Rattle.txn_log.specs.Commits as commits;
 
 use crate::commit_text::commit_text;
-use db_model::{Commit, Ops, SchemaOps, op_of_term};
+use db_model::{Commit, Ops, SchemaOps, op_of_term, schema_op_of_term};
 use disk_logs::LogErr;
 use log_items::{ItemErr, put_item};
 use std::alloc::{AllocError, Global};
@@ -48,7 +48,7 @@ impl CommitItem {
     }
 }
 
-/// The item of a commit without schema ops: `{commit,Version,[],Ops}`. It is `TooLong` exactly where its text has more than 2^28
+/// The item of a commit: `{commit,Version,SchemaOps,Ops}`. It is `TooLong` exactly where its text has more than 2^28
 /// bytes, and its only other refusal is want of memory.
 pub fn encode_commit(alloc: Global, commit: &Commit) -> Result<CommitItem, LogErr>
     requires logged { commits.IsLogged (commit_record commit.now) }
@@ -66,7 +66,8 @@ pub fn encode_commit(alloc: Global, commit: &Commit) -> Result<CommitItem, LogEr
     }
 }
 
-/// The commit that an item's content is a text of. A content that is no text of a commit, or that of one with schema ops, is none.
+/// The commit that an item's content is a text of, where the options of a definition may come in any order. A content
+/// that is no text of a commit is none.
 pub fn decode_commit(alloc: Global, item: &[u8]) -> Result<Option<Commit>, AllocError>
     ensures { IfOk result (λ found. MatchOption found (commits.IsNoCommit item.now) (λ commit. commits.IsCommit item.now (commit_record commit))) }
 {
@@ -90,24 +91,44 @@ fn without_commit(error: WireErr) -> Result<Option<Commit>, AllocError>
 
 /// The commit that has this term.
 fn commit_of_term(alloc: Global, term: &Term) -> Result<Option<Commit>, AllocError>
-    ensures { IfOk result (λ found. MatchOption found (commits.HasNoCommit (tree_of term.now)) (λ commit. commits.HasCommit (tree_of term.now) (commit_record commit))) }
+    ensures { IfOk result (λ found. MatchOption found (commits.HasNoCommit (tree_of term.now))
+        (λ commit. commits.HasCommit (tree_of term.now) (commit_record commit))) }
 {
-    let Some((version, terms)) = fields_of(term) else {
+    match fields_of(term) {
+        Some((version, schema_ops, ops)) => commit_of_fields(alloc, version, schema_ops, ops),
+        None => Ok(None),
+    }
+}
+
+/// The commit of this version that has these terms of schema ops and of ops.
+fn commit_of_fields(
+    alloc: Global,
+    version: u64,
+    schema_terms: &[Term],
+    terms: &[Term],
+) -> Result<Option<Commit>, AllocError>
+    ensures { IfOk result (λ found. MatchOption found
+        (commits.HasNoCommit (commits.commit_shape version (forest_of schema_terms.now) (forest_of terms.now)))
+        (λ commit. commits.HasCommit (commits.commit_shape version (forest_of schema_terms.now) (forest_of terms.now))
+        (commit_record commit))) }
+{
+    let Some(schema_ops) = schema_ops_of_terms(alloc, schema_terms)? else {
         return Ok(None);
     };
     match ops_of_terms(alloc, terms)? {
         Some(ops) => Ok(Some(Commit {
             version,
-            schema_ops: SchemaOps::new(alloc),
+            schema_ops,
             ops,
         })),
         None => Ok(None),
     }
 }
 
-/// The version and the list of ops of a term `{commit,Version,[],Ops}`.
-fn fields_of(term: &Term) -> Option<(u64, &[Term])>
-    ensures { MatchOption result (commits.HasNoFields (tree_of term.now)) (λ fields. tree_of term.now ≡ commits.commit_shape fields.0 (forest_of fields.1.now)) }
+/// The version and the two lists of a term `{commit,Version,SchemaOps,Ops}`.
+fn fields_of(term: &Term) -> Option<(u64, &[Term], &[Term])>
+    ensures { MatchOption result (commits.HasNoFields (tree_of term.now)) (λ fields. tree_of term.now
+        ≡ commits.commit_shape fields.0 (forest_of fields.1.now) (forest_of fields.2.now)) }
 {
     let Term::Tuple(parts) = term else {
         return None;
@@ -121,15 +142,23 @@ fn fields_of(term: &Term) -> Option<(u64, &[Term])>
 fn fields_of_parts<'a>(
     word: &Term,
     version: &Term,
-    schema_ops: &Term,
+    schema_ops: &'a Term,
     ops: &'a Term,
-) -> Option<(u64, &'a [Term])>
-    ensures { MatchOption result (commits.HasNoFields (commits.tuple_of (tree_of word.now) (tree_of version.now) (tree_of schema_ops.now) (tree_of ops.now))) (λ fields. commits.tuple_of (tree_of word.now) (tree_of version.now) (tree_of schema_ops.now) (tree_of ops.now) ≡ commits.commit_shape fields.0 (forest_of fields.1.now)) }
+) -> Option<(u64, &'a [Term], &'a [Term])>
+    ensures { MatchOption result
+        (commits.HasNoFields (commits.tuple_of (tree_of word.now) (tree_of version.now) (tree_of schema_ops.now)
+        (tree_of ops.now)))
+        (λ fields. commits.tuple_of (tree_of word.now) (tree_of version.now) (tree_of schema_ops.now) (tree_of ops.now)
+        ≡ commits.commit_shape fields.0 (forest_of fields.1.now) (forest_of fields.2.now)) }
 {
-    if !is_commit_word(word) || !is_empty_list(schema_ops) {
+    if !is_commit_word(word) {
         return None;
     }
-    Some((version_of(version)?, elements_of(ops)?))
+    Some((
+        version_of(version)?,
+        elements_of(schema_ops)?,
+        elements_of(ops)?,
+    ))
 }
 
 fn is_commit_word(term: &Term) -> bool
@@ -138,15 +167,6 @@ fn is_commit_word(term: &Term) -> bool
     match term {
         Term::Atom(atom) => atom.text() == "commit",
         Term::Int(_) | Term::Tuple(_) | Term::List(_) | Term::Bin(_) => false,
-    }
-}
-
-fn is_empty_list(term: &Term) -> bool
-    ensures { IsTrue result ↔ (tree_of term.now ≡ trees.list no_trees) }
-{
-    match term {
-        Term::List(elements) => elements.is_empty(),
-        Term::Int(_) | Term::Atom(_) | Term::Tuple(_) | Term::Bin(_) => false,
     }
 }
 
@@ -167,6 +187,21 @@ fn elements_of(term: &Term) -> Option<&[Term]>
         Term::List(elements) => Some(elements.as_slice()),
         Term::Int(_) | Term::Atom(_) | Term::Tuple(_) | Term::Bin(_) => None,
     }
+}
+
+/// The schema ops that have these terms. It is none where a term is that of no schema op.
+fn schema_ops_of_terms(alloc: Global, terms: &[Term]) -> Result<Option<SchemaOps>, AllocError>
+    ensures { IfOk result (λ found. MatchOption found (commits.AreNoSchemaOps (map tree_of terms.now))
+        (λ ops. commits.AreSchemaOps (map tree_of terms.now) (map schema_operation ops))) }
+{
+    let mut ops = SchemaOps::new(alloc);
+    for term in terms {
+        let Some(op) = schema_op_of_term(alloc, term)? else {
+            return Ok(None);
+        };
+        ops.push(op)?;
+    }
+    Ok(Some(ops))
 }
 
 /// The ops that have these terms. It is none where a term is that of no op.
@@ -197,18 +232,44 @@ mod tests {
 
     const HEADER: [u8; 16] = [0, 0, 0, 42, 12, 44, 55, 66, 46, 3, 252, 82, 112, 10, 98, 59];
 
-    #[test]
-    fn a_commit_there_and_back(rt: HostRuntime) -> Result<(), Fail> {
-        let found = decode_commit(rt.alloc(), &COMMIT)?;
-        assert!(rt; found.is_some());
-        if let Some(commit) = found {
-            let Ok(item) = encode_commit(rt.alloc(), &commit) else {
-                return Err(Fail::new("no item"));
-            };
-            assert!(rt; item.bytes().starts_with(&HEADER));
-            assert!(rt; item.bytes().ends_with(&COMMIT));
-            assert_eq!(rt; item.bytes().len(), 58);
+    // {commit,1,[{create,t,1,[{type,set},{record_name,t},{attributes,[key,val]},{index,[]}]}],[]}
+    const CREATE: [u8; 112] = [
+        131, 104, 4, 119, 6, 99, 111, 109, 109, 105, 116, 97, 1, 108, 0, 0, 0, 1, 104, 4, 119, 6,
+        99, 114, 101, 97, 116, 101, 119, 1, 116, 97, 1, 108, 0, 0, 0, 4, 104, 2, 119, 4, 116, 121,
+        112, 101, 119, 3, 115, 101, 116, 104, 2, 119, 11, 114, 101, 99, 111, 114, 100, 95, 110, 97,
+        109, 101, 119, 1, 116, 104, 2, 119, 10, 97, 116, 116, 114, 105, 98, 117, 116, 101, 115,
+        108, 0, 0, 0, 2, 119, 3, 107, 101, 121, 119, 3, 118, 97, 108, 106, 104, 2, 119, 5, 105,
+        110, 100, 101, 120, 106, 106, 106, 106,
+    ];
+
+    // {commit,2,[{drop,t}],[]}
+    const DROP: [u8; 31] = [
+        131, 104, 4, 119, 6, 99, 111, 109, 109, 105, 116, 97, 2, 108, 0, 0, 0, 1, 104, 2, 119, 4,
+        100, 114, 111, 112, 119, 1, 116, 106, 106,
+    ];
+
+    // The item that is written of the commit that was read.
+    fn written_again(alloc: Global, content: &[u8]) -> Result<Option<CommitItem>, LogErr> {
+        match decode_commit(alloc, content)? {
+            Some(commit) => Ok(Some(encode_commit(alloc, &commit)?)),
+            None => Ok(None),
         }
+    }
+
+    #[test]
+    fn commits_there_and_back(rt: HostRuntime) -> Result<(), Fail> {
+        let contents: [&[u8]; 3] = [&COMMIT, &CREATE, &DROP];
+        for content in contents {
+            let again = written_again(rt.alloc(), content)?;
+            assert!(rt;
+                again.is_some_and(|item| item.bytes().ends_with(content)),
+                "{content:?}"
+            );
+        }
+        let item = written_again(rt.alloc(), &COMMIT)?;
+        assert!(rt;
+            item.is_some_and(|item| item.bytes().starts_with(&HEADER) && item.bytes().len() == 58)
+        );
         commit_law();
         item_law();
         Ok(())
@@ -224,16 +285,17 @@ mod tests {
     // How many elements, and what is behind the first.
     type Rest = (u8, &'static [u8]);
 
-    // Commits, and their versions and how many ops they have.
-    const COMMITS: [(Rest, u64, usize); 6] = [
-        ((4, &[97, 0, 106, 106]), 0, 0),
-        ((4, &[98, 0, 0, 0, 7, 106, 106]), 7, 0),
+    // Commits, and their versions and how many schema ops and ops they have.
+    const COMMITS: [(Rest, u64, usize, usize); 7] = [
+        ((4, &[97, 0, 106, 106]), 0, 0, 0),
+        ((4, &[98, 0, 0, 0, 7, 106, 106]), 7, 0, 0),
         (
             (
                 4,
                 &[110, 8, 0, 255, 255, 255, 255, 255, 255, 255, 255, 106, 106],
             ),
             u64::MAX,
+            0,
             0,
         ),
         // [{clear,t}]
@@ -246,6 +308,7 @@ mod tests {
                 ],
             ),
             1,
+            0,
             1,
         ),
         // [{delete,t,a},{clear,t}]
@@ -259,19 +322,38 @@ mod tests {
                 ],
             ),
             255,
+            0,
             2,
         ),
         // an empty list in another spelling
-        ((4, &[97, 1, 106, 108, 0, 0, 0, 0, 106]), 1, 0),
+        ((4, &[97, 1, 106, 108, 0, 0, 0, 0, 106]), 1, 0, 0),
+        // [{drop,u},{create,t,1,[{attributes,[id,no]},{type,bag}]}]
+        (
+            (
+                4,
+                &[
+                    97, 1, 108, 0, 0, 0, 2, 104, 2, 119, 4, 100, 114, 111, 112, 119, 1, 117, 104,
+                    4, 119, 6, 99, 114, 101, 97, 116, 101, 119, 1, 116, 97, 1, 108, 0, 0, 0, 2,
+                    104, 2, 119, 10, 97, 116, 116, 114, 105, 98, 117, 116, 101, 115, 108, 0, 0, 0,
+                    2, 119, 2, 105, 100, 119, 2, 110, 111, 106, 104, 2, 119, 4, 116, 121, 112, 101,
+                    119, 3, 98, 97, 103, 106, 106, 106,
+                ],
+            ),
+            1,
+            2,
+            0,
+        ),
     ];
 
     #[test]
     fn contents_that_are_commits(rt: HostRuntime) -> Result<(), Fail> {
-        for ((size, rest), version, ops) in COMMITS {
+        for ((size, rest), version, schema_ops, ops) in COMMITS {
             let content = content(rt.alloc(), size, rest)?;
             let found = decode_commit(rt.alloc(), &content)?;
             assert!(rt;
-                found.is_some_and(|commit| commit.version == version && commit.ops.len() == ops),
+                found.is_some_and(|commit| commit.version == version
+                    && commit.schema_ops.len() == schema_ops
+                    && commit.ops.len() == ops),
                 "{content:?}"
             );
         }
@@ -279,7 +361,7 @@ mod tests {
     }
 
     // What is no commit.
-    const NO_COMMITS: [Rest; 9] = [
+    const NO_COMMITS: [Rest; 10] = [
         // 2^64, and -1
         (4, &[110, 9, 0, 0, 0, 0, 0, 0, 0, 0, 0, 1, 106, 106]),
         (4, &[98, 255, 255, 255, 255, 106, 106]),
@@ -302,12 +384,21 @@ mod tests {
                 119, 1, 97, 106,
             ],
         ),
-        // a schema op
+        // {clear,t} among the schema ops
         (
             4,
             &[
                 97, 0, 108, 0, 0, 0, 1, 104, 2, 119, 5, 99, 108, 101, 97, 114, 119, 1, 116, 106,
                 106,
+            ],
+        ),
+        // [{drop,t},{create,t,1,[{type,heap}]}]
+        (
+            4,
+            &[
+                97, 1, 108, 0, 0, 0, 2, 104, 2, 119, 4, 100, 114, 111, 112, 119, 1, 116, 104, 4,
+                119, 6, 99, 114, 101, 97, 116, 101, 119, 1, 116, 97, 1, 108, 0, 0, 0, 1, 104, 2,
+                119, 4, 116, 121, 112, 101, 119, 4, 104, 101, 97, 112, 106, 106, 106,
             ],
         ),
         // an atom for the version, and one for the list of ops

@@ -7,15 +7,15 @@ ghost use Rattle.term_core.specs.Tree.{int, atom, list, depth};
 ghost use Rattle.term_core.specs.View.{tree_of};
 ghost use Rattle.term_core.specs.Written.{written, all_written, canon};
 ghost use Rattle.term_core.specs.Kept.{IsKept, AreKept};
-ghost use Rattle.term_wire.specs.Spelling.{IsText};
 ghost use Rattle.log_items.specs.Items.{IsContent};
 ghost use Rattle.db_model.specs.Ops.{op_tree};
-ghost use Rattle.db_model.specs.View.{operation, commit_record};
+ghost use Rattle.db_model.specs.View.{operation, schema_operation, commit_record};
 ghost use Rattle.txn_log.specs.Commits as commits;
 
-use db_model::{Commit, Op};
+use db_model::{Commit, Op, SchemaOps, schema_op_term};
 use disk_logs::LogErr;
-use std::alloc::Global;
+use sqlite_items::Items;
+use std::alloc::{AllocError, Global};
 use term_core::{Atom, Term};
 use term_wire::{EncodeErr, put_atom, put_term};
 
@@ -31,48 +31,75 @@ const NIL: u8 = 106;
 /// The tag of a list with elements.
 const LIST: u8 = 108;
 
-/// The text of a commit without schema ops. It is `TooLong` exactly where it has more than 2^28 bytes, and its only
-/// other refusal is want of memory.
+/// The text of a commit. It is `TooLong` exactly where it has more than 2^28 bytes, and its only other refusal is want
+/// of memory.
 pub fn commit_text(alloc: Global, commit: &Commit) -> Result<Vec<u8>, LogErr>
+    requires logged { commits.IsLogged (commit_record commit.now) }
     requires levels { depth (commits.commit_tree (commit_record commit.now)) ≤ 128 }
     ensures text { IfOk result (λ text. text.items ≡ commits.commit_text (commit_record commit.now)) }
-    ensures spells { OnOk result (IsText (commits.commit_text (commit_record commit.now))
-        (commits.commit_tree (commit_record commit.now))) }
+    ensures spells { OnOk result (commits.IsCommit (commits.commit_text (commit_record commit.now))
+        (commit_record commit.now)) }
     ensures fits { OnOk result (IsContent (commits.commit_text (commit_record commit.now))) }
     ensures long { IsErrOf result LogErr.TooLong → 2 ^ 28 < length (commits.commit_text (commit_record commit.now)) }
     ensures only { IfErr result (λ error. (error ≡ LogErr.TooLong) ⊎ (error ≡ LogErr.Memory)) }
 {
     let mut text = Vec::with_capacity(alloc, USUAL_BYTES)?;
-    put_commit(commit, &mut text)?;
+    put_commit(alloc, commit, &mut text)?;
     if text.len() > MOST_BYTES {
         return Err(LogErr::TooLong);
     }
     Ok(text)
 }
 
-/// `{commit,Version,[],Ops}` behind byte 131.
-fn put_commit(commit: &Commit, out: &mut Vec<u8>) -> Result<(), LogErr>
+/// `{commit,Version,SchemaOps,Ops}` behind byte 131.
+fn put_commit(alloc: Global, commit: &Commit, out: &mut Vec<u8>) -> Result<(), LogErr>
     ensures ok { OnOk result (out.new.items ≡ out.old.items ++ commits.commit_text (commit_record commit.now)) }
     ensures kept { OnOk result (IsKept (commits.commit_tree (commit_record commit.now))) }
     ensures long { IsErrOf result LogErr.TooLong → 2 ^ 28 < length (commits.commit_text (commit_record commit.now)) }
     ensures only { IfErr result (λ error. (error ≡ LogErr.TooLong) ⊎ (error ≡ LogErr.Memory)) }
 {
     put_front(commit.version, out)?;
+    put_schema_ops(alloc, &commit.schema_ops, out)?;
     put_ops(commit.ops.as_slice(), out)
 }
 
-/// All in front of the ops: byte 131, the tag of a tuple of four, the word, the version, and no schema ops.
+/// All in front of the schema ops: byte 131, the tag of a tuple of four, the word and the version.
 fn put_front(version: u64, out: &mut Vec<u8>) -> Result<(), LogErr>
     ensures ok { OnOk result (out.new.items ≡ out.old.items
-        ++ ((131 ∷ 104 ∷ 4 ∷ written commits.commit_word) ++ (written (int (pos version)) ++ 106 ∷ []))) }
+        ++ ((131 ∷ 104 ∷ 4 ∷ written commits.commit_word) ++ written (int (pos version)))) }
     ensures kept { OnOk result (IsKept (int (pos version))) }
     ensures long { IsErrOf result LogErr.TooLong → 2 ^ 28 < length (canon (int (pos version))) }
     ensures only { IfErr result (λ error. (error ≡ LogErr.TooLong) ⊎ (error ≡ LogErr.Memory)) }
 {
     out.extend_from_slice(b"\x83h\x04w\x06commit")?;
-    put_part(&Term::Int(i128::from(version)), out)?;
-    out.extend_from_slice(&[NIL])?;
-    Ok(())
+    put_part(&Term::Int(i128::from(version)), out)
+}
+
+/// The list of the terms of schema ops. Most commits have none, and build no term.
+fn put_schema_ops(alloc: Global, ops: &SchemaOps, out: &mut Vec<u8>) -> Result<(), LogErr>
+    ensures ok { OnOk result (out.new.items ≡ out.old.items
+        ++ written (list (commits.schema_op_trees (map schema_operation ops.now)))) }
+    ensures kept { OnOk result (AreKept (commits.schema_op_trees (map schema_operation ops.now))) }
+    ensures long { IsErrOf result LogErr.TooLong
+        → 2 ^ 28 ≤ length (written (list (commits.schema_op_trees (map schema_operation ops.now)))) }
+    ensures only { IfErr result (λ error. (error ≡ LogErr.TooLong) ⊎ (error ≡ LogErr.Memory)) }
+{
+    if ops.is_empty() {
+        out.extend_from_slice(&[NIL])?;
+        return Ok(());
+    }
+    put_part(&schema_ops_term(alloc, ops)?, out)
+}
+
+/// `[SchemaOp,..]`
+fn schema_ops_term(alloc: Global, ops: &SchemaOps) -> Result<Term, AllocError>
+    ensures { IfOk result (λ term. tree_of term ≡ list (commits.schema_op_trees (map schema_operation ops.now))) }
+{
+    let mut terms = Items::new(alloc);
+    for op in ops.as_slice() {
+        terms.push(schema_op_term(alloc, op)?)?;
+    }
+    Ok(Term::List(terms))
 }
 
 /// The list of the terms of ops.

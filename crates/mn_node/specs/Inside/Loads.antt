@@ -4,7 +4,7 @@ use Rattle.term_core.specs.Tree.{Tree}
 use Rattle.db_model.specs.Commits.{CommitRecord}
 use Rattle.db_model.specs.Database.{records_of}
 use Rattle.txn_log.specs.Commits.{IsCommit, AreItemsOf}
-use Rattle.txn_log.specs.Logs.{IsOther, Reads}
+use Rattle.txn_log.specs.Logs.{Reads}
 use Rattle.mn_node.specs.Durable.{made, rows_of}
 use Rattle.mn_node.specs.Machine.{Answer, no_memory, fault, damaged}
 use Rattle.mn_node.specs.Meaning.{Files, latest}
@@ -36,11 +36,15 @@ pub record HasPutAt (items : List (List ℕ)) (n : ℕ) (item : Tree) : Type 0 w
   pub found : slice_get items n ≡ Some content
   pub is : IsCommit content (put_of item)
 
+-- the content is a text of no commit that puts a record
+abbrev pub IsNoPut : List ℕ → Type 0
+IsNoPut content = (commit : CommitRecord) → IsPut commit → IsCommit content commit → ⊥
+
 -- item number n is a text of no such commit
 pub record HasOtherAt (items : List (List ℕ)) (n : ℕ) : Type 0 where
   pub content : List ℕ
   pub found : slice_get items n ≡ Some content
-  pub other : IsOther IsPut content
+  pub other : IsNoPut content
 
 -- what a start fails with on a directory that has no meaning from this place on
 abbrev pub FailsBroken : ℕ → StartErr → Type 0

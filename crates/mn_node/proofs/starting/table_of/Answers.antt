@@ -1,9 +1,9 @@
 use Rattle.std.proofs.Common.{◌≡◌, Err, ◌+◌, ◌++◌, [], ◌∷◌, ap, arith}
 use Rattle.term_core.specs.View.{tree_of}
 use Rattle.txn_log.proofs.CallerLemmas.{one_commit_more, wrong_behind}
-use Rattle.mn_node.specs.Puts.{IsPut, put_of}
+use Rattle.mn_node.specs.Puts.{ArePuts, put_of}
 use Rattle.mn_node.specs.declared.starting.StartErr.TheVariants.{Damaged}
-use Rattle.mn_node.proofs.Loading.{puts_more, table_more}
+use Rattle.mn_node.proofs.Loading.{puts_more, table_more, no_put_behind}
 use Rattle.mn_node.proofs.starting.table_of.Goals as goal
 
 pub commits-preserved : goal.commits-preserved
@@ -25,5 +25,8 @@ returns-in-Err-clause-damaged c name at is =
     let i = c.commits.invariant in
     let error_is : c.in-Err.error ≡ Damaged name at = cc in
     let (place, wrong, other) = c.in-Err.ensures.damaged name at (ap (λ e. Err e) error_is) in
-    let items = c.args.file.now.items in
-    (place, wrong_behind IsPut items i.commits (c.commits.number + 1) other.content at i.are i.puts other.found other.other wrong)
+    let items = c.args.file.now.items in (
+      place,
+      wrong_behind ArePuts items i.commits (c.commits.number + 1) other.content at i.are i.puts other.found
+          (no_put_behind i.commits other.content other.other) wrong,
+    )

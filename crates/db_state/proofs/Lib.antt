@@ -1,0 +1,10 @@
+pub mod Places
+pub mod Shown
+pub mod PartLists
+pub mod Planned
+pub mod Moved
+pub mod SlotLists
+pub mod Inserted
+pub mod OpLists
+pub mod Taken
+pub mod Redefined
