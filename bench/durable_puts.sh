@@ -13,6 +13,7 @@ program, dir = sys.argv[1:]
 puts = 2_000
 script = os.path.join(dir, "script")
 with open(script, "w") as file:
+    file.write("create_table t []\n")
     file.writelines(f"put t {{t,{n % 1000},{n}}}\nsync_log\n" for n in range(puts))
 replies = os.path.join(dir, "replies")
 with open(script) as source, open(replies, "w") as out:

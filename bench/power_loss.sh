@@ -75,14 +75,20 @@ lose_power() {
 # Starts the program on what was left, and counts which of the records 1 to $2 are not there.
 look() {
     attach "$dir/lost"
-    found=$(for ((key = 1; key <= $2; key++)); do echo "get t $key"; done | "$program" "$data" 2>"$dir/reason" | grep -c "^\[{t,[0-9]*,.*}\]$")
+    found=$(for ((key = 1; key <= $2; key++)); do echo "get t $key"; done \
+        | "$program" "$data" 2>"$dir/reason" | grep -c "^\[{t,[0-9]*,.*}\]$")
     detach
     echo "$1: synced $2, lost $(($2 - found)) $(cat "$dir/reason")"
     lost=$((lost + $2 - found))
 }
 
+make_table() {
+    expect 'create_table t []' '{atomic,ok}'
+}
+
 # What is written later has its length in the file system's journal by then, and its bytes not yet on the device.
 behind_a_sync() {
+    make_table
     expect 'put t {t,1,synced}' '{atomic,ok}'
     expect sync_log ok
     expect 'put t {t,2,later}' '{atomic,ok}'
@@ -103,8 +109,10 @@ attach_small() {
     echo 4 2>/dev/null >"/sys/block/${loop#/dev/}/queue/max_sectors_kb" && fstrim "$disk"
 }
 
-# How many records the sync that was answered well covers is what the start behind the failed one tells.
+# How many commits the sync that was answered well covers is what the start behind the failed one tells: that of the table, and one for
+# each record.
 after_a_failed_sync() {
+    make_table
     expect 'put t {t,1,synced}' '{atomic,ok}'
     expect sync_log ok
     expect "put t {t,2,[$(printf 'x%0100d,' {1..200})x]}" '{atomic,ok}'
@@ -113,7 +121,7 @@ after_a_failed_sync() {
     rm "$small/filler"
     [ "$reply" = "{error,{file,'LATEST.LOG'}}" ] || return 1
     ask start
-    kept=${reply//[!0-9]/}
+    kept=$((${reply//[!0-9]/} - 1))
     expect sync_log ok
 }
 
@@ -129,7 +137,7 @@ look "behind a sync" 1
 make_image "$dir/image"
 attach "$dir/image"
 mkdir "$data"
-echo 'put t {t,1,closed}' | "$program" "$data" >/dev/null
+printf '%s\n' 'create_table t []' 'put t {t,1,closed}' | "$program" "$data" >/dev/null
 begin
 over_a_closed_log
 lose_power "$dir/image"

@@ -1,14 +1,14 @@
 #!/bin/sh
 # How many lines a second the program takes, beside how many bare appends of 60 bytes the machine makes: 200,000 puts over ten keys and
-# then as many gets, and 100,000 puts over 1,000 keys with as many gets.
+# then as many gets, and the same over 1,000 keys. Each figure is that of a whole run, with its start and its stop.
 . "$(dirname -- "$0")/prepare.sh"
 needs python3
 built
 
-python3 - "$here/../mnesia_cli" "$dir" <<'PY'
+python3 - "$here/../mnesia_cli" "$dir" "${1:-200000}" <<'PY'
 import os, subprocess, sys, time
 
-program, dir = sys.argv[1:]
+program, dir, count = sys.argv[1], sys.argv[2], int(sys.argv[3])
 
 
 def seconds(name, lines):
@@ -30,7 +30,7 @@ def seconds(name, lines):
 
 
 def puts(count, keys):
-    return [f"put t {{t,{n % keys},{n}}}\n" for n in range(count)]
+    return ["create_table t []\n"] + [f"put t {{t,{n % keys},{n}}}\n" for n in range(count)]
 
 
 def gets(count, keys):
@@ -39,19 +39,19 @@ def gets(count, keys):
 
 file = os.open(os.path.join(dir, "appends"), os.O_WRONLY | os.O_CREAT | os.O_APPEND)
 start = time.perf_counter()
-for _ in range(200_000):
+for _ in range(count):
     os.write(file, b"x" * 60)
-bare = 200_000 / (time.perf_counter() - start)
+bare = count / (time.perf_counter() - start)
 os.close(file)
 print(f"bare appends: {bare:,.0f} a second")
 
 
-def tell(what, lines, taken):
-    print(f"{what}: {lines / taken:,.0f} lines a second, ratio {lines / taken / bare:.2f}")
+def tell(what, taken):
+    print(f"{what}: {count / taken:,.0f} lines a second, ratio {count / taken / bare:.2f}")
 
 
-tell("puts over ten keys", 200_000, seconds("ten", puts(200_000, 10)))
-seconds("few", puts(10, 10))
-tell("gets over ten keys", 200_000, seconds("few", gets(200_000, 10)))
-tell("puts and gets over 1,000 keys", 200_000, seconds("many", puts(100_000, 1000) + gets(100_000, 1000)))
+for keys in [10, 1000]:
+    tell(f"puts over {keys:,} keys", seconds(f"puts{keys}", puts(count, keys)))
+    seconds(f"gets{keys}", puts(keys, keys))
+    tell(f"gets over {keys:,} keys", seconds(f"gets{keys}", gets(count, keys)))
 PY

@@ -44,6 +44,7 @@ is_refused() {
 }
 
 begin
+ask 'create_table t []' '{atomic,ok}'
 ask 'put t {t,1,first}' '{atomic,ok}'
 is_refused
 ask sync_log ok

@@ -10,8 +10,8 @@ python3 - "$here/../mnesia_cli" "$dir" <<'PY'
 import os, select, subprocess, sys
 
 program, dir = sys.argv[1:]
-SESSION = [("put t {t,1,a}", "{atomic,ok}"), ("get t 1", "[{t,1,a}]"), ("sync_log", "ok"), ("gex", "{badarg,2}"),
-           ("stop", "stopped"), ("start", "{started,1}"), ("get t 1", "[{t,1,a}]")]
+SESSION = [("create_table t []", "{atomic,ok}"), ("put t {t,1,a}", "{atomic,ok}"), ("get t 1", "[{t,1,a}]"), ("sync_log", "ok"),
+           ("gex", "{badarg,2}"), ("stop", "stopped"), ("start", "{started,2}"), ("get t 1", "[{t,1,a}]")]
 
 
 def reply(run):
@@ -38,7 +38,7 @@ read, write = os.pipe()
 run = subprocess.Popen([program, os.path.join(dir, "gone")], stdin=subprocess.PIPE, stdout=write, stderr=subprocess.PIPE)
 os.close(write)
 os.close(read)
-_, said = run.communicate(b"put t {t,1,a}\n" * 10)
+_, said = run.communicate(b"create_table t []\n" + b"put t {t,1,a}\n" * 10)
 if run.returncode != 3 or said != b"cannot write a reply\n":
     sys.exit(f"with the reader gone the run ended with status {run.returncode} and said {said}")
 print("with the reader gone the run ended with status 3")

@@ -1,7 +1,7 @@
 //! What a crash may leave of a disk, and whether a run that starts on it finds the writes.
 
 use crate::plain::{Plain, shows_a_front};
-use crate::steps::{GETS, ran};
+use crate::steps::{QUESTIONS, ran};
 use file_mem::{Choice, Effect, MemDisk, Tail, Taken};
 use file_trait::Disk;
 use std::alloc::{AllocError, Global};
@@ -28,7 +28,8 @@ pub enum Image {
 
 const EVERYTHING: Image = Image::Front(ALL, ALL, ALL);
 
-const IMAGES: [Image; 11] = [
+/// What may be left of a run.
+pub const IMAGES: [Image; 11] = [
     Image::Front(0, 0, 0),
     EVERYTHING,
     Image::Front(ALL, 0, 0),
@@ -38,6 +39,14 @@ const IMAGES: [Image; 11] = [
     Image::Zeros,
     Image::FirstAsZeros,
     Image::OtherBytes,
+    Image::AppendsAlone,
+    Image::MarksAlone,
+];
+
+/// Those of them that tell most of what a failed sync lost.
+pub const IMAGES_OF_A_LOSS: [Image; 4] = [
+    Image::Front(0, 0, 0),
+    EVERYTHING,
     Image::AppendsAlone,
     Image::MarksAlone,
 ];
@@ -83,26 +92,31 @@ fn choice(alloc: Global, image: Image) -> Result<Choice, AllocError> {
     })
 }
 
-// What a run wrote that starts on the image, and asks for all that the table has.
+// What a run wrote that starts on the image, and asks for all that the database has.
 fn after_a_crash(alloc: Global, disk: &MemDisk, image: Image) -> Result<Vec<u8>, Fail> {
     let choice = choice(alloc, image)?;
     let mut left = disk.image(disk.clock(), &choice)?.ok_or("moment")?;
-    let (_, replies) = ran(alloc, &mut left, &GETS)?;
+    let (_, replies) = ran(alloc, &mut left, &QUESTIONS)?;
     Ok(replies)
 }
 
-/// The first image, if any, on which a start finds no front of the writes that were begun, or one that lacks a durable write, or an
-/// answered one where nothing that is pending was lost.
-pub fn wrong_image(alloc: Global, disk: &MemDisk, plain: &Plain) -> Result<Option<Image>, Fail> {
-    for image in IMAGES {
-        let least = if image == EVERYTHING {
+/// The first of these images, if any, on which a start finds no front of the writes that were begun, or one that lacks
+/// a durable write, or an answered one where nothing that is pending was lost.
+pub fn wrong_image(
+    alloc: Global,
+    images: &[Image],
+    disk: &MemDisk,
+    plain: &Plain,
+) -> Result<Option<Image>, Fail> {
+    for image in images {
+        let least = if *image == EVERYTHING {
             plain.answered
         } else {
             plain.durable
         };
-        let replies = after_a_crash(alloc, disk, image)?;
+        let replies = after_a_crash(alloc, disk, *image)?;
         if !shows_a_front(alloc, &plain.writes, least, &replies)? {
-            return Ok(Some(image));
+            return Ok(Some(*image));
         }
     }
     Ok(None)

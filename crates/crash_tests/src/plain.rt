@@ -1,23 +1,18 @@
 //! What a node must reply, by a plain list of the writes that it took.
 
+use crate::replies::{is_fault, refusal, shown, started, told};
 use crate::steps::Step;
 use std::alloc::{AllocError, Global};
-
-/// A record that was put.
-#[derive(Clone, Copy)]
-pub struct Write {
-    pub key: u64,
-    pub value: u64,
-}
 
 /// What is known of a node from its replies.
 #[derive(Drop)]
 pub struct Plain {
     pub is_up: bool,
-    /// The writes that were answered, with those in doubt that a start told to be kept.
-    pub writes: Vec<Write>,
+    /// The writes that were answered, with those in doubt that a start told to be kept: tables that were made and
+    /// deleted, and records that were put.
+    pub writes: Vec<Step>,
     /// The write that the disk failed at since the last good start.
-    pub doubt: Option<Write>,
+    pub doubt: Option<Step>,
     /// How many writes there were at the last good start.
     pub base: usize,
     /// How many writes were answered in all, known at the run's end.
@@ -26,25 +21,6 @@ pub struct Plain {
     pub durable: usize,
     /// How many faults were replied.
     pub faults: usize,
-}
-
-/// What a get of this key replies where these are the writes: of those with the key the last one counts.
-pub fn found(alloc: Global, writes: &[Write], key: u64) -> Result<String, AllocError> {
-    let mut value = None;
-    for write in writes {
-        if write.key == key {
-            value = Some(write.value);
-        }
-    }
-    match value {
-        Some(value) => format!(in alloc; "[{{t,{key},{value}}}]"),
-        None => String::from_str(alloc, "[]"),
-    }
-}
-
-fn is_fault(reply: &[u8]) -> bool {
-    reply == b"{error,{file,'LATEST.LOG'}}".as_slice()
-        || reply == b"{error,{file,'LATEST.LOGTMP'}}".as_slice()
 }
 
 impl Plain {
@@ -64,38 +40,55 @@ impl Plain {
     /// Whether a command may be replied to so, and what is known then.
     pub fn takes(&mut self, alloc: Global, step: Step, reply: &[u8]) -> Result<bool, AllocError> {
         if is_fault(reply) {
-            return Ok(self.fails(step));
+            return self.fails(alloc, step);
         }
         if !self.is_up && !matches!(step, Step::Start) {
             return Ok(reply == b"{error,down}".as_slice());
         }
         match step {
-            Step::Put(key, value) => self.put(Write { key, value }, reply),
-            Step::Get(key) => Ok(reply == found(alloc, &self.writes, key)?.as_bytes()),
+            Step::Make(_) | Step::Delete(_) => self.write(alloc, step, true, reply),
+            Step::Put(_, _, _) => self.write(alloc, step, false, reply),
+            Step::Get(_, _) | Step::Tables | Step::Info(_) => {
+                Ok(reply == told(alloc, &self.writes, step)?.as_bytes())
+            }
             Step::SyncLog => Ok(self.sync(reply)),
             Step::Stop => Ok(self.stop(reply)),
             Step::Start => self.start(alloc, reply),
         }
     }
 
-    // The disk failed: a node that is up goes down, and one that is down stays so.
-    fn fails(&mut self, step: Step) -> bool {
+    // The disk failed: a node that is up goes down, and one that is down stays so. What is refused does not go to the
+    // disk.
+    fn fails(&mut self, alloc: Global, step: Step) -> Result<bool, AllocError> {
         let was_up = self.is_up;
         self.is_up = false;
         self.faults = self.faults.saturating_add(1);
         match step {
-            Step::Put(key, value) => {
-                self.doubt = Some(Write { key, value });
-                was_up
+            Step::Make(_) | Step::Delete(_) | Step::Put(_, _, _) => {
+                self.doubt = Some(step);
+                Ok(was_up && refusal(alloc, &self.writes, step)?.is_none())
             }
-            Step::Get(_) => false,
-            Step::SyncLog | Step::Stop => was_up,
-            Step::Start => !was_up,
+            Step::Get(_, _) | Step::Tables | Step::Info(_) => Ok(false),
+            Step::SyncLog | Step::Stop => Ok(was_up),
+            Step::Start => Ok(!was_up),
         }
     }
 
-    fn put(&mut self, write: Write, reply: &[u8]) -> Result<bool, AllocError> {
-        self.writes.push(write)?;
+    // A write is refused, or done, and where it settles all is durable then.
+    fn write(
+        &mut self,
+        alloc: Global,
+        step: Step,
+        settles: bool,
+        reply: &[u8],
+    ) -> Result<bool, AllocError> {
+        if let Some(refusal) = refusal(alloc, &self.writes, step)? {
+            return Ok(reply == refusal.as_bytes());
+        }
+        self.writes.push(step)?;
+        if settles {
+            self.durable = self.writes.len();
+        }
         Ok(reply == b"{atomic,ok}".as_slice())
     }
 
@@ -110,8 +103,8 @@ impl Plain {
         reply == b"stopped".as_slice()
     }
 
-    // A start tells how many writes were kept of those since the last good one: all that were answered, and perhaps one that was
-    // in doubt.
+    // A start tells how many writes were kept of those since the last good one: all that were answered, and perhaps one
+    // that was in doubt.
     fn start(&mut self, alloc: Global, reply: &[u8]) -> Result<bool, AllocError> {
         if self.is_up {
             return Ok(reply == b"{error,up}".as_slice());
@@ -168,10 +161,6 @@ impl Plain {
     }
 }
 
-fn started(alloc: Global, count: usize) -> Result<String, AllocError> {
-    format!(in alloc; "{{started,{count}}}")
-}
-
 // The first line without its line break, and what is behind it.
 fn next_line(text: &[u8]) -> (&[u8], &[u8]) {
     let len = text.iter().take_while(|byte| **byte != b'\n').count();
@@ -181,11 +170,11 @@ fn next_line(text: &[u8]) -> (&[u8], &[u8]) {
     }
 }
 
-/// Whether these are the replies of a node that is started with a front of the writes, at least so many, and asked for all that
-/// its table has.
+/// Whether these are the replies of a node that is started with a front of the writes, at least so many, and asked for
+/// all that its database has.
 pub fn shows_a_front(
     alloc: Global,
-    writes: &[Write],
+    writes: &[Step],
     least: usize,
     replies: &[u8],
 ) -> Result<bool, AllocError> {
@@ -197,14 +186,4 @@ pub fn shows_a_front(
         }
     }
     Ok(false)
-}
-
-fn shown(alloc: Global, writes: &[Write]) -> Result<String, AllocError> {
-    let mut text = started(alloc, 0)?;
-    for key in [1, 2, 3] {
-        text.push_str("\n")?;
-        text.push_str(&found(alloc, writes, key)?)?;
-    }
-    text.push_str("\n")?;
-    Ok(text)
 }

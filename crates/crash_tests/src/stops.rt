@@ -1,6 +1,6 @@
 //! A disk that stops at each of its calls.
 
-use crate::images::wrong_image;
+use crate::images::{IMAGES, wrong_image};
 use crate::plain::Plain;
 use crate::steps::{STEPS, calls_of_a_run, ran};
 use file_mem::MemDisk;
@@ -34,7 +34,7 @@ fn stopped_at_each_call(rt: HostRuntime) -> Result<(), Fail> {
         let synced = plain.durable.saturating_sub(plain.base) as u64;
         assert_eq!(rt; synced_by(&outcome), Some(synced), "mark at {call}");
         assert_eq!(rt;
-            wrong_image(rt.alloc(), &disk, &plain)?,
+            wrong_image(rt.alloc(), &IMAGES, &disk, &plain)?,
             None,
             "image at {call}"
         );

@@ -2,6 +2,8 @@ pub mod Commitments
 pub mod Defined
 pub mod Elements
 pub mod Forests
+pub mod Histories
 pub mod SchemaShapes
 pub mod Settings
 pub mod Shapes
+pub mod Telling

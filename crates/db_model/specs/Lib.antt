@@ -1,6 +1,7 @@
 pub mod Commits
 pub mod Database
 pub mod Definitions
+pub mod Histories
 pub mod Lawful
 pub mod Names
 pub mod Options

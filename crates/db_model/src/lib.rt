@@ -21,7 +21,7 @@ mod setting;
 pub use commit::{Commit, SchemaOp};
 pub use definition::{Kind, Schema, TableDef};
 pub use error::DefErr;
-pub use laws::{definition_law, op_law, schema_op_law, taken_law};
+pub use laws::{definition_law, history_law, op_law, schema_op_law, taken_law};
 pub use lists::{Defs, Ops, Positions, Rows, SchemaOps};
 pub use name::{is_name, is_table_name};
 pub use op::Op;

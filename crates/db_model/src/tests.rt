@@ -1,9 +1,10 @@
-//! Ops and schema ops there and back by tables, what is no op, names, options, what fits a table, and copies.
+//! Ops and schema ops there and back, names, options, what fits a table, and copies. What lines of a script show of
+//! options and records is shown there.
 
 use crate::{
-    Commit, DefErr, Defs, Kind, Op, Ops, Positions, Rows, Schema, SchemaOp, SchemaOps, TableDef,
-    allows, create_list, definition_law, fits, is_name, is_table_name, op_law, op_of_term, op_term,
-    parse_options, schema_op_law, schema_op_of_term, schema_op_term, taken_law,
+    Commit, Defs, Kind, Op, Ops, Positions, Rows, Schema, SchemaOp, SchemaOps, TableDef, allows,
+    create_list, definition_law, fits, history_law, is_name, is_table_name, op_law, op_of_term,
+    op_term, parse_options, schema_op_law, schema_op_of_term, schema_op_term, taken_law,
 };
 use std::alloc::Global;
 use std::test::Fail;
@@ -58,39 +59,6 @@ fn ops_there_and_back(rt: HostRuntime) -> Result<(), Fail> {
         }
     }
     op_law();
-    Ok(())
-}
-
-type Parts = (&'static [&'static str], &'static [&'static [&'static str]]);
-
-/// Tuples that are the term of no op.
-const NO_OPS: [Parts; 14] = [
-    (&["put", "t"], &[&["r", "a"]]),
-    (&["clear_object", "t"], &[]),
-    (&["write", "t"], &[]),
-    (&["delete", "t"], &[]),
-    (&["clear", "t", "a"], &[]),
-    (&["write", "t"], &[&["r", "a"], &["r", "b"]]),
-    (&["delete", "t", "a", "b"], &[]),
-    (&["clear", "t", "a", "b"], &[]),
-    (&["clear"], &[&["t"]]),
-    (&[], &[&["write"], &["t"], &["r", "a"]]),
-    (&["clear"], &[]),
-    (&[], &[]),
-    (&["clear", "schema"], &[]),
-    (&["delete", "a-b", "a"], &[]),
-];
-
-#[test]
-fn terms_of_no_op(rt: HostRuntime) -> Result<(), Fail> {
-    for (texts, inner) in NO_OPS {
-        let term = tuple(rt.alloc(), texts, inner)?;
-        assert!(rt; op_of_term(rt.alloc(), &term)?.is_none(), "{texts:?}");
-    }
-    let list = Term::List(atoms(rt.alloc(), &["clear", "t"])?);
-    for term in [&list, &atom(rt.alloc(), "clear")?, &Term::Int(1)] {
-        assert!(rt; op_of_term(rt.alloc(), term)?.is_none());
-    }
     Ok(())
 }
 
@@ -175,16 +143,14 @@ fn a_copied_commit(rt: HostRuntime) -> Result<(), Fail> {
 /// The value of an option.
 #[derive(Clone, Copy, Debug)]
 enum Value {
-    Number,
     Word(&'static str),
     Words(&'static [&'static str]),
 }
 
-use Value::{Number, Word, Words};
+use Value::{Word, Words};
 
 fn value_term(alloc: Global, value: Value) -> Result<Term, TermErr> {
     match value {
-        Number => Ok(Term::Int(1)),
         Word(text) => atom(alloc, text),
         Words(texts) => Ok(Term::List(atoms(alloc, texts)?)),
     }
@@ -201,79 +167,6 @@ fn option_list(alloc: Global, options: Options) -> Result<Term, TermErr> {
         terms.push(Term::Tuple(parts))?;
     }
     Ok(Term::List(terms))
-}
-
-/// Lists of options, each with the place of the first ill one.
-const ILL: [(Options, u64); 12] = [
-    (&[("kind", Word("set"))], 1),
-    (&[("type", Word("set")), ("type", Word("set"))], 2),
-    (&[("type", Word("heap"))], 1),
-    (&[("type", Words(&[]))], 1),
-    (&[("record_name", Number)], 1),
-    (&[("index", Words(&[])), ("record_name", Words(&["r"]))], 2),
-    (&[("attributes", Word("a"))], 1),
-    (&[("attributes", Words(&["a"]))], 1),
-    (&[("attributes", Words(&["a", "b", "a"]))], 1),
-    (&[("index", Words(&["val"]))], 1),
-    (&[("index", Number)], 1),
-    (
-        &[
-            ("record_name", Word("r")),
-            ("index", Words(&[])),
-            ("type", Word("sets")),
-        ],
-        3,
-    ),
-];
-
-#[test]
-fn ill_options(rt: HostRuntime) -> Result<(), Fail> {
-    for (options, place) in ILL {
-        let list = option_list(rt.alloc(), options)?;
-        let refused = is_refused(rt.alloc(), "t", &list, DefErr::BadOption(place))?;
-        assert!(rt; refused, "{options:?}");
-    }
-    Ok(())
-}
-
-fn is_refused(alloc: Global, name: &str, list: &Term, error: DefErr) -> Result<bool, TermErr> {
-    let name = Atom::new(alloc, name)?;
-    Ok(parse_options(alloc, &name, list).err() == Some(error))
-}
-
-#[test]
-fn no_options(rt: HostRuntime) -> Result<(), Fail> {
-    let list = Term::List(atoms(rt.alloc(), &["type", "set"])?);
-    assert!(rt; is_refused(rt.alloc(), "t", &list, DefErr::BadOption(1))?);
-    assert!(rt; is_refused(rt.alloc(), "t", &Term::Int(1), DefErr::BadOption(0))?);
-    let long = "a".repeat(rt.alloc(), 65)?;
-    for name in [long.as_str(), "schema", ""] {
-        assert!(rt;
-            is_refused(rt.alloc(), name, &list, DefErr::BadName)?,
-            "{name}"
-        );
-    }
-    Ok(())
-}
-
-#[test]
-fn numbers_of_attributes(rt: HostRuntime) -> Result<(), Fail> {
-    let name = Atom::new(rt.alloc(), "a".repeat(rt.alloc(), 64)?.as_str())?;
-    for (count, good) in [(0, false), (1, false), (2, true), (250, true), (251, false)] {
-        let mut attributes = Rows::new(rt.alloc());
-        for i in 0..count {
-            let text = format!(in rt.alloc(); "a{i}")?;
-            attributes.push(atom(rt.alloc(), text.as_str())?)?;
-        }
-        let mut parts = Rows::new(rt.alloc());
-        parts.push(atom(rt.alloc(), "attributes")?)?;
-        parts.push(Term::List(attributes))?;
-        let mut options = Rows::new(rt.alloc());
-        options.push(Term::Tuple(parts))?;
-        let parsed = parse_options(rt.alloc(), &name, &Term::List(options));
-        assert_eq!(rt; parsed.is_ok(), good, "{count}");
-    }
-    Ok(())
 }
 
 /// Lists of options, each with the create list of what it defines.
@@ -332,62 +225,16 @@ fn create_lists(rt: HostRuntime) -> Result<(), Fail> {
     Ok(())
 }
 
-/// A record of this name and key, with a list that nests so deep behind it.
-fn nested(alloc: Global, name: &str, levels: u64) -> Result<Term, TermErr> {
-    let mut inner = Term::List(Rows::new(alloc));
-    for _ in 1..levels {
-        let mut outer = Rows::new(alloc);
-        outer.push(inner)?;
-        inner = Term::List(outer);
-    }
-    let mut parts = atoms(alloc, &[name, "ann"])?;
-    parts.push(inner)?;
-    Ok(Term::Tuple(parts))
-}
-
-/// Whether the record fits the table, and may be written and deleted there.
-fn is_taken(alloc: Global, row: Term) -> Result<bool, TermErr> {
-    let def = definition(alloc)?;
-    let fit = fits(&def, &row);
-    let write = Op::Write(Atom::new(alloc, "people")?, row.try_clone(alloc)?);
-    let delete = Op::DeleteObject(Atom::new(alloc, "people")?, row);
-    Ok(fit && allows(&def, &write) && allows(&def, &delete))
-}
-
-/// Tuples of atoms, and whether they fit the table.
-const RECORDS: [(&[&str], bool); 5] = [
-    (&["person", "ann", "old"], true),
-    (&["person", "ann"], false),
-    (&["person", "ann", "old", "a"], false),
-    (&["people", "ann", "old"], false),
-    (&[], false),
-];
-
 #[test]
-fn what_fits(rt: HostRuntime) -> Result<(), Fail> {
-    for (texts, fit) in RECORDS {
-        let row = tuple(rt.alloc(), texts, &[])?;
-        assert_eq!(rt; is_taken(rt.alloc(), row)?, fit, "{texts:?}");
-    }
-    let list = Term::List(atoms(rt.alloc(), RECORDS[0].0)?);
-    assert!(rt; !is_taken(rt.alloc(), list)?);
-    for (levels, fit) in [(99, true), (100, false)] {
-        let row = nested(rt.alloc(), "person", levels)?;
-        assert_eq!(rt; is_taken(rt.alloc(), row)?, fit, "{levels}");
-    }
-    Ok(())
-}
-
-#[test]
-fn what_may_be_deleted(rt: HostRuntime) -> Result<(), Fail> {
+fn what_a_table_allows(rt: HostRuntime) -> Result<(), Fail> {
     let def = definition(rt.alloc())?;
-    for (levels, allowed) in [(99, true), (100, false)] {
-        let key = nested(rt.alloc(), "key", levels)?;
-        let op = Op::Delete(Atom::new(rt.alloc(), "people")?, key);
-        assert_eq!(rt; allows(&def, &op), allowed, "{levels}");
-    }
-    assert!(rt; allows(&def, &Op::Clear(Atom::new(rt.alloc(), "people")?)));
+    let row = tuple(rt.alloc(), &["person", "ann", "old"], &[])?;
+    assert!(rt; fits(&def, &row));
+    assert!(rt; allows(&def, &Op::Write(Atom::new(rt.alloc(), "people")?, row)));
+    let short = tuple(rt.alloc(), &["person", "ann"], &[])?;
+    assert!(rt; !fits(&def, &short));
     taken_law();
+    history_law();
     Ok(())
 }
 
@@ -418,53 +265,5 @@ fn schema_ops_there_and_back(rt: HostRuntime) -> Result<(), Fail> {
         }
     }
     schema_op_law();
-    Ok(())
-}
-
-/// Whether the tuple of these atoms, numbers and lists of options is the term of a schema op.
-fn is_schema_op(
-    alloc: Global,
-    texts: &[&str],
-    numbers: &[i128],
-    lists: &[Options],
-) -> Result<bool, TermErr> {
-    let mut parts = atoms(alloc, texts)?;
-    for number in numbers {
-        parts.push(Term::Int(*number))?;
-    }
-    for options in lists {
-        parts.push(option_list(alloc, options)?)?;
-    }
-    Ok(schema_op_of_term(alloc, &Term::Tuple(parts))?.is_some())
-}
-
-type SchemaParts = (
-    &'static [&'static str],
-    &'static [i128],
-    &'static [Options],
-    bool,
-);
-
-const SCHEMA_PARTS: [SchemaParts; 12] = [
-    (&["create", "t"], &[18446744073709551615], &[&[]], true),
-    (&["create", "t"], &[18446744073709551616], &[&[]], false),
-    (&["create", "t"], &[-1], &[&[]], false),
-    (&["create", "schema"], &[0], &[&[]], false),
-    (&["create", "t"], &[0], &[&[("kind", Word("set"))]], false),
-    (&["create", "t"], &[0], &[], false),
-    (&["drop", "t"], &[], &[], true),
-    (&["drop", "schema"], &[], &[], false),
-    (&["dropp", "t"], &[], &[], false),
-    (&["add_index", "t"], &[4294967295], &[], true),
-    (&["add_index", "t"], &[4294967296], &[], false),
-    (&["del_index", "t"], &[-1], &[], false),
-];
-
-#[test]
-fn terms_of_no_schema_op(rt: HostRuntime) -> Result<(), Fail> {
-    for (texts, numbers, lists, is) in SCHEMA_PARTS {
-        let found = is_schema_op(rt.alloc(), texts, numbers, lists)?;
-        assert_eq!(rt; found, is, "{texts:?} {numbers:?}");
-    }
     Ok(())
 }

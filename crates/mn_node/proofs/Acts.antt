@@ -1,9 +1,8 @@
 -- What a command that is tried makes of table and log, by what the log's call says.
 use Rattle.std.proofs.Common.{◌≡◌, ◌⊎◌, ℕ, zero, suc, Bool, true, false, if◌then◌else◌, IsTrue, List, [], ◌∷◌, ◌++◌, length, take, map}
 use Rattle.std.proofs.Common.{None, Result, Ok, Err, refl, sym, ap, ◌∙◌, subst, inl, append-nil, arith}
-use Rattle.std.specs.Prelude.{is_some, IsErrOf}
+use Rattle.std.specs.Prelude.{Option, is_some, IsErr, IsErrOf}
 use Rattle.std.specs.Result.{IsErrAnd}
-use Rattle.std.proofs.lemmas.List.Elements.{All-nil, All-cons, All-append}
 use Rattle.std.proofs.lemmas.Result.{err_from_is_err_and}
 use Rattle.term_core.specs.Tree.{Tree}
 use Rattle.term_core.specs.View.{tree_of}
@@ -21,16 +20,21 @@ use Rattle.disk_logs.specs.declared.error.LogErr.TheVariants as log
 use Rattle.disk_logs.proofs.Sound.{stands_sound}
 use Rattle.disk_logs.proofs.Standing.{stands_leaves}
 use Rattle.db_model.specs.Commits.{CommitRecord}
-use Rattle.db_model.specs.Database.{records_of, has_key}
+use Rattle.db_model.specs.Database.{do_commit}
+use Rattle.db_model.specs.Histories.{AreLawful}
+use Rattle.db_model.specs.Lawful as databases
+use Rattle.db_model.specs.Lawful.{IsLawful}
+use Rattle.db_model.proofs.Commitments.{stays_sound, lawful_taken}
+use Rattle.db_state.specs.Live.{database}
 use Rattle.txn_log.specs.Commits.{AreCommits, AreItemsOf}
 use Rattle.txn_log.specs.Logs.{LogState, handle, Reads, TxnStands, HasFirst, Leaves, IsLogName}
 use Rattle.mn_node.specs.Calls.{Calls}
-use Rattle.mn_node.specs.Durable.{commit, made, rows_of}
-use Rattle.mn_node.specs.Inside.Tries.{Tries, StaysLog, appended}
-use Rattle.mn_node.specs.Machine.{Answer, Effect, effect, adds, has_records, finds, refuses, goes_to_disk}
-use Rattle.mn_node.specs.Machine as machine
+use Rattle.mn_node.specs.Durable.{Entry, made}
+use Rattle.mn_node.specs.Effects.{Answer, Effect, effect, adds, has_terms, finds, refuses, goes_to_disk}
+use Rattle.mn_node.specs.Effects as effects
+use Rattle.mn_node.specs.Inside.Tries.{Tries, Appends, StaysLog, appended}
+use Rattle.mn_node.specs.Machine.{commits_of, entries_of}
 use Rattle.mn_node.specs.Meaning.{latest}
-use Rattle.mn_node.specs.Puts.{IsRow, put_of, IsPut, ArePuts}
 use Rattle.mn_node.specs.Seen.{asked, answer}
 use Rattle.mn_node.specs.Shown.{OpenShows}
 use Rattle.mn_node.specs.declared.command.Command as code
@@ -40,10 +44,10 @@ use Rattle.mn_node.specs.declared.open.Trouble.{Trouble}
 use Rattle.mn_node.specs.declared.open.Trouble.TheVariants.{File, Memory}
 use Rattle.mn_node.specs.declared.reply.Reply.{Reply}
 use Rattle.mn_node.specs.declared.reply.Reply.TheVariants as replies
-use Rattle.mn_node.proofs.Contents.{records_put}
+use Rattle.mn_node.proofs.Directories.{taken_more, made_more}
 
 -- a closed log may be trusted
-abbrev Sound : Past → Type 0
+abbrev pub Sound : Past → Type 0
 Sound past = IsSound past latest
 
 -- ---- what a crash leaves where nothing is done
@@ -91,14 +95,33 @@ module _ {past : Past} {log : LogState} {commits : List CommitRecord} {synced : 
   pub sound_commits : Sound past
   sound_commits = stands_sound past latest log.closed stands.items (suc synced) stands.stands.stands
 
+-- the result is an error
+pub is_err : {T E : Type 0} (result : Result T E) (error : E) → result ≡ Err error → IsErr result
+is_err result error is = subst IsErr (sym is) refl
+
 -- ---- nothing is done
 
-none_more : (P : List CommitRecord → Type 0) (commits : List CommitRecord) → P commits → P (commits ++ [])
+-- the effect is this answer and nothing else
+pub record IsAnswered (e : Effect) (given : Answer) : Type 0 where
+  pub answer : e.answer ≡ given
+  pub entry : e.entry ≡ None
+  pub settles : e.settles ≡ false
+  pub halts : e.halts ≡ false
+
+pub refuses_answered : (e : Effect) (given : Answer) → e ≡ refuses given → IsAnswered e given
+refuses_answered e given is = record {
+  answer = ap (λ (x : Effect). x.answer) is;
+  entry = ap (λ (x : Effect). x.entry) is;
+  settles = ap (λ (x : Effect). x.settles) is;
+  halts = ap (λ (x : Effect). x.halts) is;
+}
+
+pub none_more : (P : List CommitRecord → Type 0) (commits : List CommitRecord) → P commits → P (commits ++ [])
 none_more P commits h = subst P (sym (append-nil commits)) h
 
-has_some : (records : List Tree) → (records ≡ [] → ⊥) → IsTrue (has_records records)
+pub has_some : (terms : List Tree) → (terms ≡ [] → ⊥) → IsTrue (has_terms terms)
 has_some [] some = absurd (some refl)
-has_some (row ∷ rows) some = refl
+has_some (term ∷ terms) some = refl
 
 module _ {live : Open} {past : Past} {commits : List CommitRecord} {synced : ℕ} (shown : OpenShows live past commits synced) where
   none_touched : Touches IsLogName past past
@@ -113,51 +136,58 @@ module _ {live : Open} {past : Past} {commits : List CommitRecord} {synced : ℕ
       (none_done (Leaves commits synced) past past refl (leaves_commits shown.log))
 
   -- memory was wanting
+  pub wanted_memory : (e : Effect) → IsTrue e.takes_memory → Tries e commits synced (Err Memory) live past past
+  wanted_memory e wants =
+      record { out = (wants, shown); lawful = tt; during = leaves_yet; sound = sound_yet; touches = none_touched }
+
   pub none_tried : (e : Effect) (result : Result Done Trouble) → IsTrue e.takes_memory → IsErrAnd result (λ trouble. trouble ≡ Memory)
       → Tries e commits synced result live past past
   none_tried e result wants wanted =
       let (trouble, failed, is) = err_from_is_err_and result wanted in
-      subst (λ r. Tries e commits synced r live past past) (sym (failed ∙ ap (λ t. Err t) is))
-      (record { out = (wants, shown); during = leaves_yet; sound = sound_yet; touches = none_touched })
+      subst (λ r. Tries e commits synced r live past past) (sym (failed ∙ ap (λ t. Err t) is)) (wanted_memory e wants)
 
-  -- there are records to be copied
-  pub some_found : (key : Tree) → (records_of key (map tree_of live.table.rows.items) ≡ [] → ⊥)
-      → IsTrue (has_records (records_of key (rows_of (made commits))))
-  some_found key some = has_some (records_of key (rows_of (made commits))) (λ none. some (shown.table key ∙ none))
-
-  -- records were read
-  -- only a reply
-  pub only_told : (e : Effect) (given : Answer) (reply : Reply) (done : Done) → e ≡ refuses given → answer reply ≡ given
+  -- only a reply, where the effect appends nothing and goes on
+  pub only_told : (e : Effect) (reply : Reply) (done : Done) → IsAnswered e (answer reply)
       → done ≡ record { reply = reply; wrote = false; settles = false; halts = false }
       → Tries e commits synced (Ok done) live past past
-  only_told e given reply done is same told =
-      subst (λ x. Tries x commits synced (Ok done) live past past) (sym is)
-      (subst (λ d. Tries (refuses given) commits synced (Ok d) live past past) (sym told) (record {
+  only_told e reply done is told =
+      let none : [] ≡ appended e = sym (ap (λ (o : Option Entry). commits_of (entries_of o)) is.entry) in
+      subst (λ d. Tries e commits synced (Ok d) live past past) (sym told) (record {
         out = (
-          record { answer = same; wrote = refl; settles = refl; halts = refl },
+          record {
+            answer = sym is.answer;
+            wrote = sym (ap is_some is.entry);
+            settles = sym is.settles;
+            halts = sym is.halts;
+          },
+          subst (λ cs. OpenShows live past (commits ++ cs) (if e.settles then length (commits ++ cs) else synced)) none
+              (subst (λ b. OpenShows live past (commits ++ []) (if b then length (commits ++ []) else synced)) (sym is.settles)
+              (none_more (λ all. OpenShows live past all synced) commits shown)),
+          λ halts. let off = is.halts in absurd (cc (halts, off)),
+        );
+        lawful = subst (λ cs. AreLawful cs (made commits).database) none tt;
+        during = subst (λ cs. Moments (Leaves (commits ++ cs) synced) past past) none leaves_yet;
+        sound = sound_yet;
+        touches = none_touched;
+      })
+
+  -- terms were told
+  pub found_terms : (terms : List Tree) (e : Effect) (found : Items Term) (done : Done) → e ≡ finds terms
+      → done ≡ record { reply = replies.Found found; wrote = false; settles = false; halts = false } → map tree_of found ≡ terms
+      → Tries e commits synced (Ok done) live past past
+  found_terms terms e found done effect_is is read =
+      subst (λ x. Tries x commits synced (Ok done) live past past) (sym effect_is)
+      (subst (λ d. Tries (finds terms) commits synced (Ok d) live past past) (sym is) (record {
+        out = (
+          record { answer = ap effects.found read; wrote = refl; settles = refl; halts = refl },
           none_more (λ all. OpenShows live past all synced) commits shown,
           λ halts. absurd (cc halts),
         );
+        lawful = tt;
         during = leaves_yet;
         sound = sound_yet;
         touches = none_touched;
       }))
-
-  pub found : (key : Tree) (records : Items Term) (done : Done)
-      → done ≡ record { reply = replies.Found records; wrote = false; settles = false; halts = false }
-      → map tree_of records ≡ records_of key (map tree_of live.table.rows.items)
-      → Tries (finds (records_of key (rows_of (made commits)))) commits synced (Ok done) live past past
-  found key records done is read =
-      subst (λ d. Tries (finds (records_of key (rows_of (made commits)))) commits synced (Ok d) live past past) (sym is) (record {
-        out = (
-          record { answer = ap machine.found (read ∙ shown.table key); wrote = refl; settles = refl; halts = refl },
-          none_more (λ all. OpenShows live past all synced) commits shown,
-          λ halts. absurd (cc halts),
-        );
-        during = leaves_yet;
-        sound = sound_yet;
-        touches = none_touched;
-      })
 
 -- ---- an error of the log's call
 
@@ -168,7 +198,7 @@ pub record IsToldAs (error : LogErr) (doubt : Bool) (trouble : Trouble) : Type 0
   pub file : (name : List ℕ) → error ≡ log.File name → trouble ≡ File name doubt
   pub memory : error ≡ log.Memory → trouble ≡ Memory
 
-abbrev IsWant : LogErr → Type 0
+abbrev pub IsWant : LogErr → Type 0
 IsWant error = IsErrOf {T = Unit {0}} (Err error) log.Memory
 
 pub only_more : (error : LogErr) → OnlyFile {T = Unit {0}} (Err error) → OnlyFileOrMemory {T = Unit {0}} (Err error)
@@ -186,20 +216,22 @@ failed : (e : Effect) {commits : List CommitRecord} {synced : ℕ} {live : Open}
     → Reads commits (reads now latest) ⊎ Reads (commits ++ appended e) (reads now latest)
     → Moments (Leaves (commits ++ appended e) synced) before now → Moments Sound before now → Touches IsLogName before now
     → (IsWant error → IsTrue e.takes_memory × OpenShows live now commits synced × Moments (Leaves commits synced) before now)
+    → AreLawful (appended e) (made commits).database
     → Tries e commits synced (Err trouble) live before now
-failed e {commits} {synced} {live} {before} {now} (log.File name) trouble goes told left during sound touched wanted =
+failed e {commits} {synced} {live} {before} {now} (log.File name) trouble goes told left during sound touched wanted lawful =
     subst (λ t. Tries e commits synced (Err t) live before now) (sym (told.file name refl))
-    (record { out = (goes, told.named name refl, refl, left); during = during; sound = sound; touches = touched })
-failed e {commits} {synced} {live} {before} {now} log.Memory trouble goes told left during sound touched wanted =
+    (record { out = (goes, told.named name refl, refl, left); lawful = lawful; during = during; sound = sound; touches = touched })
+failed e {commits} {synced} {live} {before} {now} log.Memory trouble goes told left during sound touched wanted lawful =
     let (wants, shown, only_old) = wanted refl in
     subst (λ t. Tries e commits synced (Err t) live before now) (sym (told.memory refl)) (record {
       out = (wants, shown);
+      lawful = tt;
       during = none_more (λ all. Moments (Leaves all synced) before now) commits only_old;
       sound = sound;
       touches = touched;
     })
-failed e (log.Bad name at) trouble goes told left during sound touched wanted = absurd told.only
-failed e log.TooLong trouble goes told left during sound touched wanted = absurd told.only
+failed e (log.Bad name at) trouble goes told left during sound touched wanted lawful = absurd told.only
+failed e log.TooLong trouble goes told left during sound touched wanted lawful = absurd told.only
 
 -- what the log's call owes for its error is owed for what is told of it
 pub told_calls : {before now : ℕ} {blamed : List (List ℕ)} {in_doubt : Bool} (error : LogErr) (trouble : Trouble)
@@ -221,14 +253,10 @@ told_calls {before} {now} {blamed} {in_doubt} error trouble cause file only = re
     is name doubt same = let told : trouble ≡ File name doubt = cc same in ap (λ x. Err x) (only name doubt told)
 
 -- the log stays a file of items where memory was wanting
-pub stays_log : (past : Past) (live : Open) (error : LogErr) (trouble : Trouble) → (trouble ≡ Memory → error ≡ log.Memory)
-    → (IsWant error → IsLog past (handle live.log)) → StaysLog (Err trouble) past live
-stays_log past live error Memory only wanted = wanted (ap (λ e. Err e) (only refl))
-stays_log past live error (File name doubt) only wanted = tt
-
--- the records of a key behind the put of this one
-abbrev pub put_over : Tree → Tree → List Tree → List Tree
-put_over key item records = if has_key key item then item ∷ [] else records
+pub stays_log : (past : Past) (state : LogState) (error : LogErr) (trouble : Trouble) → (trouble ≡ Memory → error ≡ log.Memory)
+    → (IsWant error → IsLog past (handle state)) → StaysLog (Err trouble) past state
+stays_log past state error Memory only wanted = wanted (ap (λ e. Err e) (only refl))
+stays_log past state error (File name doubt) only wanted = tt
 
 -- what makes all durable
 abbrev settling : Answer → Bool → Bool → Effect
@@ -236,55 +264,75 @@ settling given halts takes_memory = record { answer = given; entry = None; settl
 
 -- ---- the log's call, and what it makes of a log and table that show these commits
 
-one_more : (commits : List CommitRecord) (item : Tree) → ArePuts commits → IsRow item → ArePuts (commits ++ put_of item ∷ [])
-one_more commits item puts row =
-    All-append IsPut commits (put_of item ∷ []) puts (All-cons IsPut (put_of item) [] (item, row, refl) (All-nil IsPut))
-
 module _ {live : Open} {before : Past} {commits : List CommitRecord} {synced : ℕ} (shown : OpenShows live before commits synced) where
-  -- the records are the same, and the log has the same commits
-  pub shows_same : {new : Open} {now : Past} {durable : ℕ} → new.table.rows.items ≡ live.table.rows.items
+  -- the database is the same, and the log has the same commits
+  pub shows_same : {new : Open} {now : Past} {durable : ℕ} → new.tables ≡ live.tables
       → TxnStands now new.log commits durable → OpenShows new now commits durable
   shows_same same stands =
-      record { table = λ key. ap (λ rows. records_of key (map tree_of rows)) same ∙ shown.table key; log = stands; puts = shown.puts }
+      record { same = ap database same ∙ shown.same; log = stands; taken = shown.taken; sound = shown.sound }
 
-  -- a commit was appended, and its record put
-  pub put_done : {new : Open} {now : Past} (item : Tree) (kept : List Term) → IsRow item → kept ≡ live.table.rows.items
-      → ((key : Tree) → records_of key (map tree_of new.table.rows.items) ≡ put_over key item (records_of key (map tree_of kept)))
-      → TxnStands now new.log (commits ++ put_of item ∷ []) synced
-      → Moments (Leaves (commits ++ put_of item ∷ []) synced) before now → Moments Sound before now → Touches IsLogName before now
-      → Tries (adds (commit (put_of item))) commits synced
-      (Ok (record { reply = replies.Done; wrote = true; settles = false; halts = false })) new before now
-  put_done item kept row same put stands during sound touched = record {
-    out = (
-      record { answer = refl; wrote = refl; settles = refl; halts = refl },
+  -- a lawful commit was appended and done
+  pub shows_more : {new : Open} {now : Past} {durable : ℕ} (c : CommitRecord) → IsLawful c (database live.tables)
+      → database new.tables ≡ do_commit c (database live.tables) → TxnStands now new.log (commits ++ c ∷ []) durable
+      → OpenShows new now (commits ++ c ∷ []) durable
+  shows_more c lawful did stands =
+      let here : IsLawful c (made commits).database = subst (IsLawful c) shown.same lawful in
+      let takes = lawful_taken c (made commits).database shown.sound here in
+      let is : (made (commits ++ c ∷ [])).database ≡ do_commit c (made commits).database = made_more commits c ∙ sym takes.1 in
       record {
-        table = λ key.
-            put key ∙ ap (λ rows. put_over key item (records_of key (map tree_of rows))) same ∙ ap (put_over key item) (shown.table key)
-            ∙ sym (records_put commits item key shown.puts row);
+        same = did ∙ ap (do_commit c) shown.same ∙ sym is;
         log = stands;
-        puts = one_more commits item shown.puts row;
-      },
-      λ halts. absurd (cc halts),
-    );
-    during = during;
-    sound = sound;
-    touches = touched;
-  }
+        taken = taken_more commits c shown.taken takes.0;
+        sound = subst databases.IsSound (sym is) (stays_sound c (made commits).database shown.sound here);
+      }
 
-  -- it was not appended, or is in doubt
-  pub put_failed : {new : Open} {now : Past} (item : Tree) (error : LogErr) (trouble : Trouble)
-      → new.table.rows.items ≡ live.table.rows.items → IsToldAs error true trouble
-      → Reads commits (reads now latest) ⊎ Reads (commits ++ put_of item ∷ []) (reads now latest)
-      → Moments (Leaves (commits ++ put_of item ∷ []) synced) before now → Moments Sound before now → Touches IsLogName before now
-      → (IsWant error → TxnStands now new.log commits synced × Moments (Leaves commits synced) before now)
-      → Tries (adds (commit (put_of item))) commits synced (Err trouble) new before now
-  put_failed item error trouble same told left during sound touched kept =
-      failed (adds (commit (put_of item))) error trouble refl told left during sound touched
-      (λ wanted. let (stands, only_old) = kept wanted in (refl, shows_same same stands, only_old))
+  -- a commit was to be appended, which was planned, and done where it was
+  pub appends_tried : {new : Open} {now : Past} (settles : Bool) (c : CommitRecord) (result : Result Done Trouble)
+      → IsLawful c (database live.tables) → Appends settles c commits synced result new.log before now
+      → (IsErr result → new.tables ≡ live.tables)
+      → ((done : Done) → result ≡ Ok done → database new.tables ≡ do_commit c (database live.tables))
+      → Touches IsLogName before now → Tries (adds settles c) commits synced result new before now
+  appends_tried {new} {now} settles c result lawful h kept did touched = by result refl h
+    where
+      alone : AreLawful (c ∷ []) (made commits).database
+      alone = (subst (IsLawful c) shown.same lawful, tt)
+
+      by : (r : Result Done Trouble) → result ≡ r → Appends settles c commits synced r new.log before now
+          → Tries (adds settles c) commits synced result new before now
+      by (Ok done) is a = subst (λ r. Tries (adds settles c) commits synced r new before now) (sym is) (record {
+        out = (
+          record {
+            answer = ap (λ (d : Done). answer d.reply) a.out.0;
+            wrote = ap (λ (d : Done). d.wrote) a.out.0;
+            settles = ap (λ (d : Done). d.settles) a.out.0;
+            halts = ap (λ (d : Done). d.halts) a.out.0;
+          },
+          shows_more c lawful (did done is) a.out.1,
+          λ halts. absurd (cc halts),
+        );
+        lawful = alone;
+        during = a.during;
+        sound = a.sound;
+        touches = touched;
+      })
+      by (Err Memory) is a = subst (λ r. Tries (adds settles c) commits synced r new before now) (sym is) (record {
+        out = (refl, shows_same (kept (is_err result Memory is)) a.out);
+        lawful = tt;
+        during = a.during;
+        sound = a.sound;
+        touches = touched;
+      })
+      by (Err (File name doubt)) is a = subst (λ r. Tries (adds settles c) commits synced r new before now) (sym is) (record {
+        out = (refl, a.out.0, a.out.1, a.out.2);
+        lawful = alone;
+        during = a.during;
+        sound = a.sound;
+        touches = touched;
+      })
 
   -- all was made durable
   pub settled : {new : Open} {now : Past} (given : Answer) (halts takes_memory : Bool) (reply : Reply) → answer reply ≡ given
-      → new.table.rows.items ≡ live.table.rows.items → TxnStands now new.log commits (length commits)
+      → new.tables ≡ live.tables → TxnStands now new.log commits (length commits)
       → (IsTrue halts → new.log.closed ≡ true)
       → Moments (Leaves commits synced) before now → Moments Sound before now → Touches IsLogName before now
       → Tries (settling given halts takes_memory) commits synced
@@ -295,6 +343,7 @@ module _ {live : Open} {before : Past} {commits : List CommitRecord} {synced : �
       none_more (λ all. OpenShows new now all (length all)) commits (shows_same same stands),
       closed,
     );
+    lawful = tt;
     during = none_more (λ all. Moments (Leaves all synced) before now) commits during;
     sound = sound;
     touches = touched;
@@ -302,14 +351,14 @@ module _ {live : Open} {before : Past} {commits : List CommitRecord} {synced : �
 
   -- it was not
   pub unsettled : {new : Open} {now : Past} (given : Answer) (halts takes_memory : Bool) (error : LogErr) (trouble : Trouble)
-      → new.table.rows.items ≡ live.table.rows.items → IsToldAs error false trouble → Reads commits (reads now latest)
+      → new.tables ≡ live.tables → IsToldAs error false trouble → Reads commits (reads now latest)
       → Moments (Leaves commits synced) before now → Moments Sound before now → Touches IsLogName before now
       → (IsWant error → IsTrue takes_memory × TxnStands now new.log commits synced)
       → Tries (settling given halts takes_memory) commits synced (Err trouble) new before now
   unsettled {new} {now} given halts takes_memory error trouble same told left during sound touched kept =
       failed (settling given halts takes_memory) error trouble refl told (inl left)
       (none_more (λ all. Moments (Leaves all synced) before now) commits during) sound touched
-      (λ wanted. let (may, stands) = kept wanted in (may, shows_same same stands, during))
+      (λ wanted. let (may, stands) = kept wanted in (may, shows_same same stands, during)) tt
 
 -- ---- one command
 

@@ -1,10 +1,6 @@
--- What a start keeps of a log while it reads and opens it, and how the log makes a table.
-use Rattle.std.proofs.Common.{◌≡◌, ◌⊎◌, ℕ, if◌then◌else◌, List, [], ◌∷◌, ◌++◌, length, Option, Some, Result, Ok, Err, refl, sym, ap, ◌∙◌, subst, inl, inr, arith}
-use Rattle.std.specs.Prelude.{◌↔◌, None, slice_get, map, OnErr, IsErrOf, IfOk, MatchOption}
-use Rattle.std.proofs.lemmas.List.Elements.{All-append, All-cons, All-nil}
-use Rattle.term_core.specs.Tree.{Tree}
-use Rattle.term_core.specs.View.{tree_of}
-use Rattle.term_core.specs.declared.term.Term.{Term}
+-- What a start keeps of a log while it reads and opens it, and how the log makes a database.
+use Rattle.std.proofs.Common.{◌≡◌, ◌⊎◌, ℕ, ◌+◌, List, [], ◌∷◌, ◌++◌, length, take, Option, Some, Result, Ok, Err, refl, sym, ap, ◌∙◌, subst, inl, inr, arith}
+use Rattle.std.specs.Prelude.{◌↔◌, None, slice_get, OnErr, IsErrOf, MatchOption}
 use Rattle.file_trait.specs.Calls.{SyncedDir, Cause}
 use Rattle.file_trait.specs.Counts.{Rose}
 use Rattle.file_trait.specs.DiskModel.{Past, did, reads, sync_dir, IsImage, Crashes}
@@ -21,24 +17,26 @@ use Rattle.disk_logs.specs.Logs.{FileRead, IsRead}
 use Rattle.disk_logs.specs.declared.error.LogErr.{LogErr}
 use Rattle.disk_logs.specs.declared.error.LogErr.TheVariants as log_err
 use Rattle.db_model.specs.Commits.{CommitRecord}
-use Rattle.db_model.specs.Database.{records_of, has_key}
+use Rattle.db_model.specs.Database.{Database}
+use Rattle.db_model.specs.Lawful as databases
+use Rattle.db_model.specs.Taken.{CanTake, taken, Takes}
 use Rattle.db_model.specs.View.{commit_record}
 use Rattle.db_model.specs.declared.commit.Commit.{Commit}
-use Rattle.txn_log.specs.Commits.{IsCommit, IsNoCommit}
-use Rattle.txn_log.specs.Logs.{IsLogName, Reads, OldOrCommits, TxnStands, HasFound, IsAsRead, IsOther, IsWrong, IsWrongAt}
+use Rattle.db_state.specs.Live.{database}
+use Rattle.log_items.specs.Items.{wire}
+use Rattle.txn_log.specs.Commits.{IsCommit, IsNoCommit, AreItemsOf}
+use Rattle.txn_log.specs.Logs.{IsLogName, Reads, OldOrCommits, TxnStands, HasFound, IsAsRead, IsWrong, IsWrongAt}
 use Rattle.txn_log.proofs.Acts.{touches_more}
-use Rattle.txn_log.proofs.CallerLemmas.{one_commit, one_list_of_commits, reads_not_wrong, one_wrong_place, no_log_is_wrong, reads_of_items, wrong_of_items}
+use Rattle.txn_log.proofs.CallerLemmas.{one_commit, one_commit_more, wrong_behind, one_list_of_commits, reads_not_wrong, one_wrong_place, no_log_is_wrong, reads_of_items, wrong_of_items}
 use Rattle.mn_node.specs.Calls.{Calls}
-use Rattle.mn_node.specs.Durable.{made, rows_of}
-use Rattle.mn_node.specs.Inside.Loads.{Loads, MakesTable, HasPutAt, IsNoPut, HasOtherAt, FailsBroken}
-use Rattle.mn_node.specs.Meaning.{Files, latest, IsBroken}
-use Rattle.mn_node.specs.Puts.{IsRow, IsPut, ArePuts, put_of}
+use Rattle.mn_node.specs.Durable.{made}
+use Rattle.mn_node.specs.Inside.Loads.{Loads, Makes, TakesAt, CannotTakeAt, FailsBroken}
+use Rattle.mn_node.specs.Meaning.{Files, latest, IsBroken, AreTaken}
 use Rattle.mn_node.specs.Shown.{OpenShows, StaysSound}
 use Rattle.mn_node.specs.declared.open.Open.{Open}
 use Rattle.mn_node.specs.declared.starting.StartErr.{StartErr}
 use Rattle.mn_node.specs.declared.starting.StartErr.TheVariants as start
-use Rattle.mn_node.proofs.Contents.{records_put}
-use Rattle.mn_node.proofs.Directories.{first_puts, last_put}
+use Rattle.mn_node.proofs.Directories.{first_taken, taken_more, last_taken, made_more}
 
 -- ---- a sync of the directory
 
@@ -146,14 +144,15 @@ pub left_as : {T E P : Type 0} (r : Result T E) → P → OnErr r P
 left_as (Ok x) h = tt
 left_as (Err e) h = h
 
-pub opens : (live : Open) (old new : Past) (commits : List CommitRecord) → ArePuts commits → Reads commits (reads old latest)
-    → Loads (reads old) (map tree_of live.table.rows.items)
+pub opens : (live : Open) (old new : Past) (commits : List CommitRecord) → AreTaken commits → databases.IsSound (made commits).database
+    → Reads commits (reads old latest) → Loads (reads old) (database live.tables)
     → TxnStands new live.log commits (length commits) → OpenShows live new commits (length commits)
-opens live old new commits puts has loads log = record {
-  table = λ key. loads.same key
-      ∙ ap (λ cs. records_of key (rows_of (made cs))) (one_list_of_commits (reads old latest) loads.commits commits loads.reads has);
+opens live old new commits can sound has loads log = record {
+  same = loads.same
+      ∙ ap (λ cs. (made cs).database) (one_list_of_commits (reads old latest) loads.commits commits loads.reads has);
   log = log;
-  puts = puts;
+  taken = can;
+  sound = sound;
 }
 
 -- ---- what a start owes
@@ -175,6 +174,21 @@ start_calls {T} {U} {before} {old} {now} {blamed} error failed same cause file =
     at : (name : List ℕ) → IsErrOf {T = U} (Err failed) (start.File name) → IsErrOf {T = T} (Err error) (log_err.File name)
     at name is = let failed_is : failed ≡ start.File name = cc is in ap (λ e. Err e) ((file name).1 failed_is)
 
+-- the same of what the start fails with, behind calls that left the count
+pub calls_as : {T U : Type 0} {before old now : ℕ} {blamed : List (List ℕ)} (failed : StartErr) → old ≡ before
+    → Calls old now blamed (λ name. IsErrOf {T = T} (Err failed) (start.File name))
+    → Calls before now blamed (λ name. IsErrOf {T = U} (Err failed) (start.File name))
+calls_as {T} {U} {before} {old} {now} {blamed} failed same calls = record {
+  later = omega (arith, same, calls.later);
+  rose = λ name is. subst (λ n. Rose n now) same (calls.rose name (at name is));
+  blames = λ name is. calls.blames name (at name is);
+  answered = λ none. calls.answered (λ name is.
+      let failed_is : failed ≡ start.File name = cc is in none name (ap (λ e. Err e) failed_is)) ∙ same;
+}
+  where
+    at : (name : List ℕ) → IsErrOf {T = U} (Err failed) (start.File name) → IsErrOf {T = T} (Err failed) (start.File name)
+    at name is = let failed_is : failed ≡ start.File name = cc is in ap (λ e. Err e) failed_is
+
 -- the directory could not be synced
 pub sync_calls : {before now : ℕ} {blamed_before blamed : List (List ℕ)} (error : DiskErr) (name : List ℕ)
     → (IsErrOf {T = Unit {0}} (Err error) Memory → ⊥) → Cause {T = Unit {0}} [] before now blamed_before blamed (Err error)
@@ -190,15 +204,15 @@ sync_calls Memory name never cause = absurd (never refl)
 -- ---- a directory without a meaning
 
 -- what was loaded has a meaning
-pub loaded_means : (files : Files) (table : List Tree) (name : List ℕ) (at : ℕ) → Loads files table → IsBroken files name at → ⊥
-loaded_means files table name at loads broken =
-    reads_not_wrong ArePuts first_puts (files latest) loads.commits at loads.reads loads.puts broken.1
+pub loaded_means : (files : Files) (database : Database) (name : List ℕ) (at : ℕ) → Loads files database → IsBroken files name at → ⊥
+loaded_means files database name at loads broken =
+    reads_not_wrong AreTaken first_taken (files latest) loads.commits at loads.reads loads.taken broken.1
 
 -- a log that could not be read is wrong from the place that was told
 pub found_wrong : (files : Files) (error : LogErr) (name : List ℕ) (at : ℕ) → HasFound (Err error) (files latest)
-    → error ≡ log_err.Bad name at → IsWrong ArePuts at (files latest)
+    → error ≡ log_err.Bad name at → IsWrong AreTaken at (files latest)
 found_wrong files error name at found is =
-    let here = subst (λ e. HasFound (Err e) (files latest)) is found in no_log_is_wrong ArePuts at (files latest) here.1
+    let here = subst (λ e. HasFound (Err e) (files latest)) is found in no_log_is_wrong AreTaken at (files latest) here.1
 
 -- it fails with the place of the damage, or for another reason
 pub fails_broken : (files : Files) (name : List ℕ) (at : ℕ) (error : StartErr)
@@ -206,28 +220,24 @@ pub fails_broken : (files : Files) (name : List ℕ) (at : ℕ) (error : StartEr
     → IsBroken files name at → FailsBroken at error
 fails_broken files name at (start.File other) h broken = tt
 fails_broken files name at (start.Damaged other place) h broken =
-    let found = h other place refl in (found.0, one_wrong_place ArePuts first_puts (files latest) place at found.1 broken.1)
+    let found = h other place refl in (found.0, one_wrong_place AreTaken first_taken (files latest) place at found.1 broken.1)
 fails_broken files name at start.Memory h broken = tt
 
--- ---- the table of a log
+-- ---- the database of a log
 
 -- what its items make, the directory has
-pub table_loads : (files : Files) (read : FileRead) (table : List Tree) → IsRead read → files latest ≡ Some read.bytes
-    → MakesTable read.items table → Loads files table
-table_loads files read table whole there makes = record {
+pub database_loads : (files : Files) (read : FileRead) (database : Database) → IsRead read → files latest ≡ Some read.bytes
+    → Makes read.items database → Loads files database
+database_loads files read database whole there makes = record {
   commits = makes.commits;
-  puts = makes.puts;
+  taken = makes.taken;
   reads = reads_of_items read (files latest) makes.commits whole there makes.are;
   same = makes.same;
 }
 
 pub items_broken : (files : Files) (read : FileRead) (name : List ℕ) (at : ℕ) → IsRead read → files latest ≡ Some read.bytes
-    → (name ≡ latest) × IsWrongAt ArePuts read.items at → IsBroken files name at
-items_broken files read name at whole there wrong = (wrong.0, wrong_of_items ArePuts read (files latest) at whole there wrong.1)
-
-pub puts_more : (commits : List CommitRecord) (item : Tree) → ArePuts commits → IsRow item → ArePuts (commits ++ put_of item ∷ [])
-puts_more commits item puts row =
-    All-append IsPut commits (put_of item ∷ []) puts (All-cons IsPut (put_of item) [] (item, row, refl) (All-nil IsPut))
+    → (name ≡ latest) × IsWrongAt AreTaken read.items at → IsBroken files name at
+items_broken files read name at whole there wrong = (wrong.0, wrong_of_items AreTaken read (files latest) at whole there wrong.1)
 
 -- ---- an item
 
@@ -238,46 +248,63 @@ Decodes content found = MatchOption found (IsNoCommit content) (λ commit. IsCom
 abbrev pub Finds : List (List ℕ) → ℕ → Option Commit → Type 0
 Finds items n found = (content : List ℕ) × (slice_get items n ≡ Some content) × Decodes content found
 
--- the commit puts this record, or is no put
-abbrev pub Puts : CommitRecord → Option Term → Type 0
-Puts commit found = MatchOption found (IsPut commit → ⊥) (λ item. IsRow (tree_of item) × (commit ≡ put_of (tree_of item)))
-
--- and the same of the item
-abbrev pub PutsAt : List (List ℕ) → ℕ → Option Term → Type 0
-PutsAt items n found = MatchOption found (HasOtherAt items n) (λ item. HasPutAt items n (tree_of item))
-
--- behind any commits a text of no put is none that is allowed
-pub no_put_behind : (commits : List CommitRecord) (content : List ℕ) → IsNoPut content → IsOther ArePuts commits content
-no_put_behind commits content none commit puts text = none commit (last_put commits commit puts) text
-
-pub none_at : (items : List (List ℕ)) (n : ℕ) (found : Option Commit) → found ≡ None → Finds items n found → HasOtherAt items n
-none_at items n found is h =
+-- it is a text of no commit
+pub none_at : (items : List (List ℕ)) (n : ℕ) (found : Option Commit) (before : Database) → found ≡ None → Finds items n found
+    → CannotTakeAt items n before
+none_at items n found before is h =
     let none : IsNoCommit h.0 = subst (Decodes h.0) is h.2 in
-    record { content = h.0; found = h.1; other = λ commit put text. none commit text }
+    record { content = h.0; found = h.1; none = λ commit text can. none commit text }
 
-pub put_at : {E : Type 0} (items : List (List ℕ)) (n : ℕ) (found : Option Commit) (commit : Commit) (r : Result (Option Term) E)
-    → found ≡ Some commit → Finds items n found
-    → IfOk r (Puts (commit_record commit)) → IfOk r (PutsAt items n)
-put_at items n found commit (Err error) is h puts = tt
-put_at items n found commit (Ok None) is h none =
-    let text : IsCommit h.0 (commit_record commit) = subst (Decodes h.0) is h.2 in
-    record {
-      content = h.0;
-      found = h.1;
-      other = λ other put more. none (subst IsPut (one_commit h.0 other (commit_record commit) more text) put);
-    }
-put_at items n found commit (Ok (Some item)) is h puts =
-    let text : IsCommit h.0 (commit_record commit) = subst (Decodes h.0) is h.2 in
-    record { row = puts.0; content = h.0; found = h.1; is = subst (IsCommit h.0) puts.1 text }
+text_at : (items : List (List ℕ)) (n : ℕ) (found : Option Commit) (commit : Commit) → found ≡ Some commit → (h : Finds items n found)
+    → IsCommit h.0 (commit_record commit)
+text_at items n found commit is h = subst (Decodes h.0) is h.2
+
+-- it is a text of a commit that cannot be taken
+pub cannot_at : (items : List (List ℕ)) (n : ℕ) (found : Option Commit) (commit : Commit) (before : Database) → found ≡ Some commit
+    → Finds items n found → Takes (commit_record commit) before None → CannotTakeAt items n before
+cannot_at items n found commit before is h cannot = record {
+  content = h.0;
+  found = h.1;
+  none = λ other text can.
+      cannot (subst (λ c. CanTake c before) (one_commit h.0 other (commit_record commit) text (text_at items n found commit is h)) can);
+}
+
+-- it is a text of one that was taken
+pub taken_at : (items : List (List ℕ)) (n : ℕ) (found : Option Commit) (commit : Commit) (before planned now : Database)
+    → found ≡ Some commit → Finds items n found → Takes (commit_record commit) before (Some planned) → now ≡ planned
+    → TakesAt items n before now
+taken_at items n found commit before planned now is h takes same = record {
+  content = h.0;
+  found = h.1;
+  commit = commit_record commit;
+  text = text_at items n found commit is h;
+  can = takes.0;
+  is = same ∙ takes.1;
+}
 
 -- ---- one commit after another
 
-pub table_more : (commits : List CommitRecord) (item : Tree) (old kept new : List Term) → ArePuts commits → IsRow item
-    → ((key : Tree) → records_of key (map tree_of old) ≡ records_of key (rows_of (made commits))) → kept ≡ old
-    → ((key : Tree) → records_of key (map tree_of new) ≡ (if has_key key item then item ∷ [] else records_of key (map tree_of kept)))
-    → (key : Tree) → records_of key (map tree_of new) ≡ records_of key (rows_of (made (commits ++ put_of item ∷ [])))
-table_more commits item old kept new puts row same is put key =
-    put key
-    ∙ ap (λ rows. if has_key key item then item ∷ [] else records_of key (map tree_of rows)) is
-    ∙ ap (λ records. if has_key key item then item ∷ [] else records) (same key)
-    ∙ sym (records_put commits item key puts row)
+-- so far the items are those of these commits, which make this database
+pub record MakesFirst (items : List (List ℕ)) (n : ℕ) (database : Database) : Type 0 where
+  pub commits : List CommitRecord
+  pub taken : AreTaken commits
+  pub are : AreItemsOf commits (take n items)
+  pub same : database ≡ (made commits).database
+
+pub makes_more : (items : List (List ℕ)) (n : ℕ) (before now : Database) → MakesFirst items n before → TakesAt items n before now
+    → MakesFirst items (n + 1) now
+makes_more items n before now h at =
+    let can : CanTake at.commit (made h.commits).database = subst (CanTake at.commit) h.same at.can in
+    record {
+      commits = h.commits ++ at.commit ∷ [];
+      taken = taken_more h.commits at.commit h.taken can;
+      are = one_commit_more items h.commits n at.content at.commit h.are at.found at.text;
+      same = at.is ∙ ap (taken at.commit) h.same ∙ sym (made_more h.commits at.commit);
+    }
+
+pub wrong_next : (items : List (List ℕ)) (n : ℕ) (before : Database) (at : ℕ) → MakesFirst items n before → CannotTakeAt items n before
+    → at ≡ 8 + length (wire (take n items)) → IsWrongAt AreTaken items at
+wrong_next items n before at h cannot place =
+    wrong_behind AreTaken items h.commits n cannot.content at h.are h.taken cannot.found
+    (λ commit more text. cannot.none commit text
+    (subst (CanTake commit) (sym h.same) (last_taken h.commits commit more))) place

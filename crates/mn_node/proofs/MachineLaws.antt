@@ -1,10 +1,9 @@
 -- Laws over the machine's steps, by choice and not by command.
-use Rattle.std.proofs.Common.{◌≡◌, ℕ, ◌≤◌, Bool, true, false, if◌then◌else◌, List, ◌++◌, length, Option, None, Some, refl, sym, ap, ◌∙◌, subst, inl, inr, arith, length-append}
-use Rattle.db_model.specs.Definitions.{Definition}
-use Rattle.mn_node.specs.Durable.{Entry, commit, Durable, definition_in}
-use Rattle.mn_node.specs.Machine.{Machine, Event, start, command, refused, turn, end, Command, put, get, sync_log, stop, Answer, bad_record, damaged, adds, refuses, put_effect, get_effect, IsAlive, ruined, Choice, as_asked, out_of_memory, failed, Effect, effect, now_of, entries_of, Comes, ComesUp, Boots, Does, Step, Change}
+use Rattle.std.proofs.Common.{◌≡◌, ℕ, ◌≤◌, Bool, true, false, if◌then◌else◌, List, ◌++◌, length, refl, sym, ap, ◌∙◌, subst, inl, inr, arith, length-append}
+use Rattle.mn_node.specs.Durable.{Entry}
+use Rattle.mn_node.specs.Effects.{Command, stop, Answer, Effect, effect}
+use Rattle.mn_node.specs.Machine.{Machine, Event, start, command, refused, turn, end, IsAlive, ruined, Choice, as_asked, out_of_memory, failed, now_of, entries_of, Comes, ComesUp, Boots, Does, Step, Change}
 use Rattle.mn_node.specs.Meaning.{Meaning, stands, broken}
-use Rattle.mn_node.specs.Puts.{fits, write_of}
 
 -- ---- what is synced is there
 
@@ -92,25 +91,3 @@ broken_stays old (command c) answer new name at is does = same_does c old answer
 broken_stays old (refused place) answer new name at is (told, same) = ap (λ (m : Machine). m.base) same ∙ is
 broken_stays old turn answer new name at is (told, same) = ap (λ (m : Machine). m.base) same ∙ is
 broken_stays old end answer new name at is does = same_does stop old answer new does ∙ is
-
--- ---- what commands answer
-
--- no command finds damage
-pub answers_undamaged : (w : Durable) (c : Command) (name : List ℕ) (at : ℕ) → (effect w c).answer ≡ damaged name at → ⊥
-answers_undamaged w (put table item) name at is = by (definition_in table w.database.tables) is
-  where
-    fitting : (b : Bool)
-        → (if b then adds (commit (write_of w.database.version table item)) else refuses (bad_record item)).answer ≡ damaged name at → ⊥
-    fitting true is = cc
-    fitting false is = cc
-
-    by : (d : Option Definition) → (put_effect d w table item).answer ≡ damaged name at → ⊥
-    by None is = cc
-    by (Some definition) is = fitting (fits definition item) is
-answers_undamaged w (get table key) name at is = by (definition_in table w.database.tables) is
-  where
-    by : (d : Option Definition) → (get_effect d w table key).answer ≡ damaged name at → ⊥
-    by None is = cc
-    by (Some definition) is = cc
-answers_undamaged w sync_log name at is = cc
-answers_undamaged w stop name at is = cc

@@ -7,30 +7,32 @@ use Rattle.log_items.specs.Items.{log_bytes}
 use Rattle.log_items.proofs.Unique.{written}
 use Rattle.disk_logs.specs.Crash.{IsSound}
 use Rattle.db_model.specs.Commits.{CommitRecord}
+use Rattle.db_model.specs.Lawful as databases
 use Rattle.txn_log.specs.Logs.{Reads, IsLogName}
 use Rattle.txn_log.proofs.CallerLemmas.{reads_not_wrong, one_wrong_place}
 use Rattle.mn_node.specs.Durable.{Entry, Durable, after, made}
-use Rattle.mn_node.specs.Machine.{Event, refused, turn, Answer, started, bad_line, silent, halted, Machine, unstarted_machine, durable_of, now_of, HoldsAs, Holds, HoldsClosed, Leaves, Change, added}
-use Rattle.mn_node.specs.Meaning.{Files, latest, Meaning, stands, broken, Stands, StandsClosed, IsBroken, Means}
-use Rattle.mn_node.specs.Puts.{ArePuts}
-use Rattle.mn_node.specs.Shown.{ShowsLife, HasLog, Shows, Steps, IsWhole}
+use Rattle.mn_node.specs.Effects.{Answer, started, bad_line, silent}
+use Rattle.mn_node.specs.Machine.{Event, refused, turn, halted, IsLawfulMachine, KeepsAs, AreDone, Machine, unstarted_machine, durable_of, now_of, HoldsAs, Holds, HoldsClosed, Leaves, Change, added}
+use Rattle.mn_node.specs.Meaning.{Files, latest, Meaning, stands, broken, AreTaken, Stands, StandsClosed, IsBroken, Means}
+use Rattle.mn_node.specs.Shown.{IsHistory, ShowsLife, HasLog, Shows, Steps, IsWhole}
 use Rattle.mn_node.specs.declared.node.Node.{Node}
 use Rattle.mn_node.specs.declared.node.State.{State}
 use Rattle.mn_node.specs.declared.node.State.TheVariants.{Unstarted, Up, Stopped, Faulted, Starved, Ruined}
 use Rattle.mn_node.specs.declared.open.Open.{Open}
-use Rattle.mn_node.proofs.Directories.{first_puts}
-use Rattle.mn_node.proofs.Prefixes.{stands_behind}
+use Rattle.mn_node.proofs.Directories.{first_taken}
+use Rattle.mn_node.proofs.Histories.{history_first}
+use Rattle.mn_node.proofs.Prefixes.{kept_front, stands_behind}
 use Rattle.mn_node.proofs.NodeSteps.{begun_base, down_alive}
 
--- a log of puts is no log without a meaning
+-- a log that can be taken is no log without a meaning
 pub stands_not_broken : (files : Files) (w : Durable) (name : List ℕ) (at : ℕ) → Stands files w → IsBroken files name at → ⊥
-stands_not_broken files w name at (commits, has, puts, is) (named, wrong) =
-    reads_not_wrong ArePuts first_puts (files latest) commits at has puts wrong
+stands_not_broken files w name at (commits, has, can, is) (named, wrong) =
+    reads_not_wrong AreTaken first_taken (files latest) commits at has can wrong
 
 -- a closed log is a log
 pub closed_stands : (files : Files) (w : Durable) → StandsClosed files w → Stands files w
-closed_stands files w (commits, items, are, fit, is, puts, same) =
-    (commits, inr (log_bytes true items, is, (items, are, (true, written true items fit))), puts, same)
+closed_stands files w (commits, items, are, fit, is, can, same) =
+    (commits, inr (log_bytes true items, is, (items, are, (true, written true items fit))), can, same)
 
 -- a machine that was halted is shown by a closed log
 closed_life : (state : State) (past : Past) (machine : Machine) (earlier : List CommitRecord) → ShowsLife state past machine earlier
@@ -51,12 +53,24 @@ module _ (first past : Past) (node : Node) (machine : Machine) (shown : Shows fi
   holds_as : (base : Meaning) → HasLog base first past machine shown.earlier → HoldsAs base machine (reads past)
   holds_as (stands w) (k, sound) =
       let same : made shown.earlier ≡ w = sym (ap durable_of k.base_is) in
-      let held = stands_behind shown.earlier k.kept (reads past) k.has k.puts in
+      let front = kept_front machine k.kept k.is_kept in
+      let history = history_first shown.earlier k.kept front.0 (subst (IsHistory shown.earlier) front.1 k.history) in
+      let held = stands_behind shown.earlier k.kept (reads past) history k.has in
       (k.kept, k.is_kept, k.within, subst (λ (u : Durable). Stands (reads past) (after u k.kept)) same held)
   holds_as (broken name at) (wrong, same) = wrong
 
   pub shows_closed : machine.life ≡ halted → HoldsClosed (reads past) machine
   shows_closed is = closed_life node.state past machine shown.earlier shown.life is
+
+  -- each entry was lawful when it was done
+  lawful_as : (base : Meaning) → HasLog base first past machine shown.earlier → KeepsAs base machine.entries
+  lawful_as (stands w) (k, sound) =
+      let same : made shown.earlier ≡ w = sym (ap durable_of k.base_is) in
+      subst (AreDone machine.entries) same k.history.done
+  lawful_as (broken name at) h = tt
+
+  pub shows_lawful : IsLawfulMachine machine
+  shows_lawful = lawful_as machine.base shown.log
 
   pub shows_holds : Holds (reads past) machine
   shows_holds = (holds_as machine.base shown.log, shows_closed)
@@ -98,7 +112,7 @@ module _ (first past : Past) (node : Node) (machine : Machine) (shown : Shows fi
       by : (base : Meaning) → machine.base ≡ base → HoldsAs base machine (reads past) → machine.base ≡ broken name at
       by (stands w) is (kept, among, within, st) = absurd (stands_not_broken (reads past) (after w kept) name at st wrong)
       by (broken other place) is (named, there) =
-          let place_is : place ≡ at = one_wrong_place ArePuts first_puts (reads past latest) place at there wrong.1 in
+          let place_is : place ≡ at = one_wrong_place AreTaken first_taken (reads past latest) place at there wrong.1 in
           is ∙ (λ i. broken ((named ∙ sym wrong.0) i) (place_is i))
 
   -- ---- events that are not the node's
@@ -131,8 +145,9 @@ new_node = record { state = Unstarted; base = None; entries = 0; synced = 0 }
 
 -- a node that was not started stands for the machine of the directory's meaning
 pub shows_first : (first : Past) (meaning : Meaning) → Means (reads first) meaning
-    → ((w : Durable) → meaning ≡ stands w → IsSound first latest) → Shows first new_node first (unstarted_machine meaning)
-shows_first first (stands w) (commits, has, puts, is) sound = record {
+    → ((w : Durable) → meaning ≡ stands w → IsSound first latest × databases.IsSound w.database)
+    → Shows first new_node first (unstarted_machine meaning)
+shows_first first (stands w) (commits, has, can, is) sound = record {
   earlier = commits;
   life = refl;
   base = (refl, refl);
@@ -145,9 +160,12 @@ shows_first first (stands w) (commits, has, puts, is) sound = record {
       is_kept = inl refl;
       within = omega arith;
       has = subst (λ cs. Reads cs (reads first latest)) (sym (append-nil commits)) has;
-      puts = subst ArePuts (sym (append-nil commits)) puts;
+      history = record {
+        taken = can;
+        done = (subst (λ (u : Durable). databases.IsSound u.database) is (sound w refl).1, tt);
+      };
     },
-    sound w refl,
+    (sound w refl).0,
   );
   leaves = λ image is. inl (image, is, refl);
 }

@@ -9,7 +9,7 @@ use Rattle.txn_log.specs.Logs.{handle, IsLogName}
 use Rattle.mn_node.specs.Calls.{Calls, Owes}
 use Rattle.mn_node.specs.Inside.Loads.{start_answer, down_node, up_node}
 use Rattle.mn_node.specs.Inside.Tries.{StaysLog, counted, failed_node, failed_answer}
-use Rattle.mn_node.specs.Machine.{Answer, is_fault, fault, no_memory, started, damaged}
+use Rattle.mn_node.specs.Effects.{Answer, is_fault, fault, no_memory, started, damaged}
 use Rattle.mn_node.specs.Seen.{answer}
 use Rattle.mn_node.specs.Shown.{HasLogOf, IsWhole, CountsFew, IsFew}
 use Rattle.mn_node.specs.declared.node.Node.{Node}
@@ -73,7 +73,7 @@ module _ (tells : Bool) (before now : ℕ) (blamed : List (List ℕ)) (past_befo
   module _ {T : Type 0} (live live_new : Open) (up : node.state ≡ Up live) (more : live_new.log.commits ≤ live.log.commits + 1)
       (touched : IsTrue tells → Touches IsLogName past_before past) where
     by_trouble : (trouble : Trouble) → Calls before now blamed (FailedAt {T = T} (Err trouble))
-        → (IsTrue tells → StaysLog (Err trouble) past live_new)
+        → (IsTrue tells → StaysLog (Err trouble) past live_new.log)
         → Owes tells before now blamed past_before past node (failed_node (record node { state = Up live_new }) trouble)
         (failed_answer trouble)
     by_trouble Memory calls log = record {
@@ -100,7 +100,7 @@ module _ (tells : Bool) (before now : ℕ) (blamed : List (List ℕ)) (past_befo
 
     pub failed_owes : (trouble : Trouble) (given : Answer) (left : Node) → given ≡ failed_answer trouble
         → left ≡ failed_node (record node { state = Up live_new }) trouble
-        → Calls before now blamed (FailedAt {T = T} (Err trouble)) → (IsTrue tells → StaysLog (Err trouble) past live_new)
+        → Calls before now blamed (FailedAt {T = T} (Err trouble)) → (IsTrue tells → StaysLog (Err trouble) past live_new.log)
         → Owes tells before now blamed past_before past node left given
     failed_owes trouble given left given_is left_is calls log =
         subst (Owes tells before now blamed past_before past node left) (sym given_is)

@@ -8,29 +8,27 @@ use Rattle.file_trait.proofs.Moments.{none_done, weaker, at_end}
 use Rattle.file_trait.proofs.Touched.{untouched}
 use Rattle.disk_logs.specs.Crash.{IsSound}
 use Rattle.db_model.specs.Commits.{CommitRecord}
+use Rattle.db_model.specs.Lawful as databases
 use Rattle.txn_log.specs.Logs.{Reads, OldOrCommits, IsLogName}
 use Rattle.txn_log.proofs.CallerLemmas.{reads_not_wrong}
 use Rattle.mn_node.specs.Durable.{Entry, Durable, after, made}
 use Rattle.mn_node.specs.Inside.Loads.{FailsBroken, start_answer, down_node, up_node}
-use Rattle.mn_node.specs.Machine.{Answer, is_no_memory, start, started, no_memory, fault, damaged, is_up, command, stop, end, Life, running, faulted, starved, ruined, runs, IsAlive, Machine, durable_of, with_life, IsKept, booted, as_asked, out_of_memory, failed, Boots, Change, LeavesAs, Leaves, entries_if, added}
-use Rattle.mn_node.specs.Meaning.{Files, latest, Meaning, stands, broken, Stands, IsBroken, Means, IsPrefixOf}
-use Rattle.mn_node.specs.Puts.{ArePuts}
-use Rattle.mn_node.specs.Shown.{commits_of, OpenShows, ShowsLife, HasKept, HasLog, CountsBase, Shows, StaysSound, Steps, IsWhole}
+use Rattle.mn_node.specs.Effects.{Answer, is_no_memory, started, no_memory, fault, damaged, is_up, stop}
+use Rattle.mn_node.specs.Machine.{start, command, end, commits_of, Life, running, faulted, starved, ruined, runs, IsAlive, Machine, durable_of, with_life, booted, as_asked, out_of_memory, failed, Boots, Change, LeavesAs, Leaves, entries_if, added}
+use Rattle.mn_node.specs.Meaning.{Files, latest, Meaning, stands, broken, AreTaken, Stands, IsBroken, Means, IsPrefixOf}
+use Rattle.mn_node.specs.Shown.{OpenShows, IsHistory, ShowsLife, HasKept, HasLog, CountsBase, Shows, StaysSound, Steps, IsWhole}
 use Rattle.mn_node.specs.declared.node.Node.{Node}
 use Rattle.mn_node.specs.declared.node.State.{State}
 use Rattle.mn_node.specs.declared.node.State.TheVariants.{Up, Faulted, Starved, Ruined}
 use Rattle.mn_node.specs.declared.open.Open.{Open}
 use Rattle.mn_node.specs.declared.starting.StartErr.{StartErr}
 use Rattle.mn_node.specs.declared.starting.StartErr.TheVariants as variants
-use Rattle.mn_node.proofs.Directories.{first_puts}
-use Rattle.mn_node.proofs.Prefixes.{made_behind, behind_count, stands_behind, crash_behind, standing_reads, standing_sound, standing_leaves, same_leaves}
+use Rattle.mn_node.proofs.Directories.{first_taken}
+use Rattle.mn_node.proofs.Histories.{made_behind, taken_all, sound_all, history_first, history_begun}
+use Rattle.mn_node.proofs.Prefixes.{kept_front, behind_count, stands_behind, crash_behind, standing_reads, standing_sound, standing_leaves, same_leaves}
 use Rattle.mn_node.proofs.NodeSteps.{steps_at, down_alive, down_runs}
 
 -- ---- what was kept
-
-kept_front : (machine : Machine) (kept : List Entry) → IsKept machine kept → (rest : List Entry) × (machine.entries ≡ kept ++ rest)
-kept_front machine kept (inl is) = ([], is ∙ sym (append-nil kept))
-kept_front machine kept (inr (doubt, last, is)) = (last ∷ [], is)
 
 none_kept : (kept rest : List Entry) → [] ≡ kept ++ rest → kept ≡ []
 none_kept [] rest is = refl
@@ -41,16 +39,18 @@ none_kept (entry ∷ kept) rest is = absurd (cc is)
 -- it comes up with these commits, which are all durable
 abbrev pub ComesUpWith : Open → Past → Past → Type 0
 ComesUpWith live before now =
-    (commits : List CommitRecord) → Reads commits (reads before latest) → ArePuts commits → OpenShows live now commits (length commits)
+    (commits : List CommitRecord) → Reads commits (reads before latest) → AreTaken commits → databases.IsSound (made commits).database
+    → OpenShows live now commits (length commits)
 
 abbrev pub StillReads : Past → Past → Type 0
 StillReads before now =
-    (commits : List CommitRecord) → Reads commits (reads before latest) → ArePuts commits → Reads commits (reads now latest)
+    (commits : List CommitRecord) → Reads commits (reads before latest) → AreTaken commits → Reads commits (reads now latest)
 
 -- at each moment a crash leaves what it could leave before, or exactly these commits
 abbrev pub LeavesOld : Past → Past → Type 0
 LeavesOld before now =
-    (commits : List CommitRecord) → Reads commits (reads before latest) → ArePuts commits → Moments (OldOrCommits before commits) before now
+    (commits : List CommitRecord) → Reads commits (reads before latest) → AreTaken commits
+    → Moments (OldOrCommits before commits) before now
 
 -- ---- another life
 
@@ -58,7 +58,7 @@ pub log_life : (base : Meaning) (first past : Past) (life : Life) (machine : Mac
     → HasLog base first past machine earlier
     → HasLog base first past (with_life life machine) earlier
 log_life (stands w) first past life machine earlier (k, sound) =
-    (record { base_is = k.base_is; kept = k.kept; is_kept = k.is_kept; within = k.within; has = k.has; puts = k.puts }, sound)
+    (record { base_is = k.base_is; kept = k.kept; is_kept = k.is_kept; within = k.within; has = k.has; history = k.history }, sound)
 log_life (broken name at) first past life machine earlier h = h
 
 base_life : (base : Option ℕ) (life : Life) (machine : Machine) (earlier : List CommitRecord) → CountsBase base machine earlier
@@ -80,15 +80,19 @@ module _ (first before now : Past) (node : Node) (machine : Machine) (whole : Is
     abbrev commits : List CommitRecord
     commits = h.earlier ++ commits_of k.kept
 
-    w_is : w ≡ made h.earlier
-    w_is = ap durable_of k.base_is
-
     front : (rest : List Entry) × (machine.entries ≡ k.kept ++ rest)
     front = kept_front machine k.kept k.is_kept
 
+    -- what was kept is a history
+    kept_history : IsHistory h.earlier k.kept
+    kept_history = history_first h.earlier k.kept front.0 (subst (IsHistory h.earlier) front.1 k.history)
+
+    w_is : w ≡ made h.earlier
+    w_is = ap durable_of k.base_is
+
     kept_stands : (files : Files) → Reads commits (files latest) → Stands files (after w k.kept)
     kept_stands files has =
-        subst (λ (u : Durable). Stands files (after u k.kept)) (sym w_is) (stands_behind h.earlier k.kept files has k.puts)
+        subst (λ (u : Durable). Stands files (after u k.kept)) (sym w_is) (stands_behind h.earlier k.kept files kept_history has)
 
     kept_left : (base : Option ℕ) → CountsBase base machine h.earlier → (files : Files) → Stands files (after w k.kept)
         → Leaves first machine [] files
@@ -128,7 +132,7 @@ module _ (first before now : Past) (node : Node) (machine : Machine) (whole : Is
       new = booted w k.kept
 
       after_is : after w k.kept ≡ made commits
-      after_is = ap (λ (u : Durable). after u k.kept) w_is ∙ sym (made_behind h.earlier k.kept)
+      after_is = ap (λ (u : Durable). after u k.kept) w_is ∙ sym (made_behind h.earlier k.kept kept_history)
 
       none_more : commits ≡ commits ++ []
       none_more = sym (append-nil commits)
@@ -139,7 +143,8 @@ module _ (first before now : Past) (node : Node) (machine : Machine) (whole : Is
 
       up_leaves : Crashes (Leaves first new []) now
       up_leaves = subst (λ (u : Durable). Crashes (IsPrefixOf u [] 0) now) (sym after_is)
-          (crash_behind commits [] 0 now up_shown.puts (standing_leaves now live.log (commits ++ []) (length commits + 0) up_shown.log))
+          (crash_behind commits [] 0 now (history_begun h.earlier k.kept kept_history)
+          (standing_leaves now live.log (commits ++ []) (length commits + 0) up_shown.log))
 
       commits_count : live.log.commits ≡ length h.earlier + length k.kept
       commits_count = shows.log.count ∙ behind_count h.earlier k.kept
@@ -170,7 +175,7 @@ module _ (first before now : Past) (node : Node) (machine : Machine) (whole : Is
               is_kept = inl refl;
               within = omega arith;
               has = standing_reads now live.log (commits ++ []) (length commits + 0) up_shown.log;
-              puts = up_shown.puts;
+              history = history_begun h.earlier k.kept kept_history;
             },
             standing_sound now live.log commits (length commits) shows.log,
           );
@@ -218,7 +223,10 @@ module _ (first before now : Past) (node : Node) (machine : Machine) (whole : Is
           → Steps first machine start answer node (up_node live) before now
       by (stands w) is (k, sound) =
           let all : List CommitRecord = h.earlier ++ commits_of k.kept in
-          start_ups w is k live (shows sound all k.has k.puts) (moments all k.has k.puts) stays touches answer at_first later
+          let history = kept_history w is k in
+          let can = taken_all h.earlier k.kept history in
+          start_ups w is k live (shows sound all k.has can (sound_all h.earlier k.kept history)) (moments all k.has can) stays touches
+          answer at_first later
       by (broken name at) is (wrong, same) = absurd (meaning name at wrong)
 
   -- ---- it remains down
@@ -281,6 +289,7 @@ module _ (first before now : Past) (node : Node) (machine : Machine) (whole : Is
           → Steps first machine start (start_answer error) node (down_node node error) before now
       by (stands w) is (k, sound) =
           let all : List CommitRecord = h.earlier ++ commits_of k.kept in
+          let can = taken_all h.earlier k.kept (kept_history w is k) in
           fails stays touches (record {
             log = subst (λ (m : Meaning). HasLog m first now machine h.earlier) (sym is) (
               record {
@@ -288,14 +297,14 @@ module _ (first before now : Past) (node : Node) (machine : Machine) (whole : Is
                 kept = k.kept;
                 is_kept = k.is_kept;
                 within = k.within;
-                has = reading all k.has k.puts;
-                puts = k.puts;
+                has = reading all k.has can;
+                history = k.history;
               },
               at_end (λ past. IsSound past latest) before now (stays sound),
             );
-            during = start_during w is k (moments all k.has k.puts);
+            during = start_during w is k (moments all k.has can);
           }) error named (λ name at error_is.
-          absurd (reads_not_wrong ArePuts first_puts (reads before latest) all at k.has k.puts (found name at error_is).1))
+          absurd (reads_not_wrong AreTaken first_taken (reads before latest) all at k.has can (found name at error_is).1))
       by (broken name at) is (wrong, untouched_yet) =
           let unchanged : now ≡ before = same name at wrong in
           fails stays touches (record {

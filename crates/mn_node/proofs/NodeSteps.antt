@@ -1,6 +1,5 @@
 -- What a node does is a step of the machine, whatever the command.
 use Rattle.std.proofs.Common.{◌≡◌, ◌⊎◌, ℕ, ◌+◌, ◌≤◌, Bool, true, false, if◌then◌else◌, List, [], ◌∷◌, ◌++◌, length, Option, None, Some, is_some, Result, Ok, Err, refl, sym, ap, ◌∙◌, subst, inl, inr, arith, length-append, append-nil}
-use Rattle.std.proofs.lemmas.List.Elements.{All-append}
 use Rattle.file_trait.specs.DiskModel.{Past, reads, Crashes}
 use Rattle.file_trait.specs.Moments.{Moments}
 use Rattle.file_trait.proofs.Moments.{none_done, weaker, at_end}
@@ -9,14 +8,14 @@ use Rattle.disk_logs.specs.Crash.{IsSound}
 use Rattle.db_model.specs.Commits.{CommitRecord}
 use Rattle.txn_log.specs.Logs as logs
 use Rattle.txn_log.specs.Logs.{Reads, IsLogName}
-use Rattle.db_model.specs.Definitions.{Definition}
-use Rattle.mn_node.specs.Durable.{Entry, commit, Durable, definition_in, after, made}
+use Rattle.db_model.specs.Histories.{AreLawful}
+use Rattle.mn_node.specs.Durable.{Entry, Durable, after, made}
+use Rattle.mn_node.specs.Effects.{Command, Effect, Answer, is_no_memory, no_memory, fault, is_down, effect}
 use Rattle.mn_node.specs.Inside.Tries.{appended, IsDone, Tries, IsPlain, counted, settled_node, failed_node, failed_answer}
-use Rattle.mn_node.specs.Machine.{Command, put, get, sync_log, stop, Effect, Event, command, Answer, started, is_no_memory, no_memory, fault, is_down, adds, refuses, bad_record, put_effect, get_effect, effect, Life, running, halted, runs, IsAlive, Machine, durable_of, now_of, entries_of, with_effect, in_doubt, as_asked, out_of_memory, failed, LeavesAs, Leaves, HoldsClosed, entries_if, added}
+use Rattle.mn_node.specs.Machine.{Event, command, commits_of, Life, running, halted, runs, IsAlive, Machine, durable_of, now_of, entries_of, with_effect, in_doubt, as_asked, out_of_memory, failed, LeavesAs, Leaves, HoldsClosed, entries_if, added}
 use Rattle.mn_node.specs.Meaning.{Files, latest, Meaning, stands, IsPrefixOf}
-use Rattle.mn_node.specs.Puts.{IsPut, ArePuts, fits, write_of}
 use Rattle.mn_node.specs.Seen.{answer}
-use Rattle.mn_node.specs.Shown.{commits_of, OpenShows, IsUp, ShowsLife, HasKept, HasLog, CountsBase, Shows, Steps, IsUpState, IsWhole}
+use Rattle.mn_node.specs.Shown.{OpenShows, IsHistory, IsUp, ShowsLife, HasKept, HasLog, CountsBase, Shows, Steps, IsUpState, IsWhole}
 use Rattle.mn_node.specs.declared.node.Node.{Node}
 use Rattle.mn_node.specs.declared.node.State.{State}
 use Rattle.mn_node.specs.declared.node.State.TheVariants.{Unstarted, Up, Stopped, Faulted, Starved, Ruined}
@@ -24,30 +23,9 @@ use Rattle.mn_node.specs.declared.open.Done.{Done}
 use Rattle.mn_node.specs.declared.open.Open.{Open}
 use Rattle.mn_node.specs.declared.open.Trouble.{Trouble}
 use Rattle.mn_node.specs.declared.open.Trouble.TheVariants.{File, Memory}
-use Rattle.mn_node.proofs.Prefixes.{made_behind, behind_more, behind_count, crash_behind, standing_reads, standing_within, standing_sound, standing_closed, standing_leaves}
-use Rattle.mn_node.proofs.Refusals.{asked_puts}
-
--- ---- what a command answers
-
--- no command is answered as a start
-starts_none : (w : Durable) (c : Command) (n : ℕ) → (effect w c).answer ≡ started n → ⊥
-starts_none w (put table item) n is = by (definition_in table w.database.tables) is
-  where
-    fitting : (b : Bool) → (if b then adds (commit (write_of w.database.version table item)) else refuses (bad_record item)).answer
-        ≡ started n → ⊥
-    fitting true is = absurd (cc is)
-    fitting false is = absurd (cc is)
-
-    by : (d : Option Definition) → (put_effect d w table item).answer ≡ started n → ⊥
-    by None is = absurd (cc is)
-    by (Some definition) is = fitting (fits definition item) is
-starts_none w (get table key) n is = by (definition_in table w.database.tables) is
-  where
-    by : (d : Option Definition) → (get_effect d w table key).answer ≡ started n → ⊥
-    by None is = absurd (cc is)
-    by (Some definition) is = absurd (cc is)
-starts_none w sync_log n is = absurd (cc is)
-starts_none w stop n is = absurd (cc is)
+use Rattle.mn_node.proofs.Answers.{starts_none}
+use Rattle.mn_node.proofs.Histories.{made_behind, history_more}
+use Rattle.mn_node.proofs.Prefixes.{behind_more, behind_count, crash_behind, standing_reads, standing_within, standing_sound, standing_closed, standing_leaves}
 
 -- ---- a machine that was begun
 
@@ -115,8 +93,14 @@ module _ (first before now : Past) (node : Node) (live : Open) (machine : Machin
   base_is : machine.base ≡ stands (made earlier)
   base_is = begun_base node.base machine earlier is_begun h.base
 
+  kept_log : HasKept (stands (made earlier)) machine earlier (reads before) × IsSound before latest
+  kept_log = subst (λ (m : Meaning). HasLog m first before machine earlier) base_is h.log
+
+  history : IsHistory earlier machine.entries
+  history = kept_log.0.history
+
   pub now_is : made log_commits ≡ now_of machine
-  now_is = made_behind earlier machine.entries ∙ ap (λ (m : Meaning). after (durable_of m) machine.entries) (sym base_is)
+  now_is = made_behind earlier machine.entries history ∙ ap (λ (m : Meaning). after (durable_of m) machine.entries) (sym base_is)
 
   abbrev e : Effect
   e = effect (now_of machine) c
@@ -127,15 +111,15 @@ module _ (first before now : Past) (node : Node) (live : Open) (machine : Machin
       → Tries e log_commits log_synced result new_live before now
   tried_at result new_live t = subst (λ (w : Durable). Tries (effect w c) log_commits log_synced result new_live before now) now_is t
 
-  -- what is appended is the put of a record
-  pub puts_asked : ArePuts (appended e)
-  puts_asked = subst (λ (w : Durable). ArePuts (appended (effect w c))) now_is (asked_puts log_commits c up_shows.puts)
-
   abbrev all : List Entry
   all = machine.entries ++ entries_of e.entry
 
   all_is : log_commits ++ appended e ≡ earlier ++ commits_of all
   all_is = behind_more earlier machine.entries (entries_of e.entry)
+
+  -- with a lawful commit it is a history still
+  more_done : AreLawful (appended e) (made log_commits).database → IsHistory earlier all
+  more_done lawful = history_more earlier machine.entries history (entries_of e.entry) lawful
 
   within : machine.synced ≤ length machine.entries
   within = omega (arith, standing_within before live.log log_commits log_synced up_shows.log, behind_count earlier machine.entries)
@@ -149,14 +133,14 @@ module _ (first before now : Past) (node : Node) (live : Open) (machine : Machin
   -- what a crash leaves, by the commits of the log
   leaves_as : (new : Machine) (more : List Entry) (commits : List CommitRecord) (least : ℕ) → new.begun ≡ true → new.base ≡ machine.base
       → commits ≡ earlier ++ commits_of (new.entries ++ more)
-      → least ≡ length earlier + new.synced → ArePuts commits → (past : Past) → logs.Leaves commits least past
+      → least ≡ length earlier + new.synced → IsHistory earlier (new.entries ++ more) → (past : Past) → logs.Leaves commits least past
       → Crashes (Leaves first new more) past
-  leaves_as new more commits least begun base commits_are least_is puts past leaves image is =
+  leaves_as new more commits least begun base commits_are least_is done past leaves image is =
       let behind : List CommitRecord = earlier ++ commits_of (new.entries ++ more) in
       let left : logs.Leaves behind (length earlier + new.synced) past =
       subst (λ n. logs.Leaves behind n past) least_is (subst (λ cs. logs.Leaves cs least past) commits_are leaves) in
       prefix_leaves new.begun new.base first (made earlier) (new.entries ++ more) new.synced image begun (base ∙ base_is)
-      (crash_behind earlier (new.entries ++ more) new.synced past (subst ArePuts commits_are puts) left image is)
+      (crash_behind earlier (new.entries ++ more) new.synced past done left image is)
 
   no_more : (entries : List Entry) (commits : List CommitRecord) → commits ≡ earlier ++ commits_of entries
       → commits ≡ earlier ++ commits_of (entries ++ [])
@@ -168,13 +152,16 @@ module _ (first before now : Past) (node : Node) (live : Open) (machine : Machin
       sym (ap (λ (b : Bool). if b then [] else entries_if (runs machine.life) c machine) plain
       ∙ ap (λ (l : Life). entries_if (runs l) c machine) is_running)
 
-  during : (given : Answer) → is_no_memory given ≡ false → ArePuts (log_commits ++ appended e)
+  none_more : (entries : List Entry) → IsHistory earlier entries → IsHistory earlier (entries ++ [])
+  none_more entries done = subst (IsHistory earlier) (sym (append-nil entries)) done
+
+  during : (given : Answer) → is_no_memory given ≡ false → IsHistory earlier all
       → Moments (logs.Leaves (log_commits ++ appended e) log_synced) before now
       → Moments (Crashes (Leaves first machine (added machine (command c) given))) before now
-  during given plain puts moments =
+  during given plain done moments =
       subst (λ (more : List Entry). Moments (Crashes (Leaves first machine more)) before now) (added_is given plain)
       (weaker (logs.Leaves (log_commits ++ appended e) log_synced) (Crashes (Leaves first machine (entries_of e.entry))) before now
-      (leaves_as machine (entries_of e.entry) (log_commits ++ appended e) log_synced is_begun refl all_is refl puts) moments)
+      (leaves_as machine (entries_of e.entry) (log_commits ++ appended e) log_synced is_begun refl all_is refl done) moments)
 
   -- the log that the machine is shown by
   has_log : (new : Machine) → new.base ≡ machine.base → HasKept (stands (made earlier)) new earlier (reads now) → IsSound now latest
@@ -182,10 +169,10 @@ module _ (first before now : Past) (node : Node) (live : Open) (machine : Machin
   has_log new base kept sound = subst (λ (m : Meaning). HasLog m first now new earlier) (sym (base ∙ base_is)) (kept, sound)
 
   -- a log that stands, with all entries of a machine
-  stands_log : (new : Machine) (new_live : Open) → new.base ≡ machine.base
+  stands_log : (new : Machine) (new_live : Open) → new.base ≡ machine.base → IsHistory earlier new.entries
       → OpenShows new_live now (earlier ++ commits_of new.entries) (length earlier + new.synced)
       → HasLog new.base first now new earlier
-  stands_log new new_live base shows =
+  stands_log new new_live base done shows =
       let commits : List CommitRecord = earlier ++ commits_of new.entries in
       let synced : ℕ = length earlier + new.synced in
       has_log new base (record {
@@ -194,16 +181,16 @@ module _ (first before now : Past) (node : Node) (live : Open) (machine : Machin
         is_kept = inl refl;
         within = omega (arith, standing_within now new_live.log commits synced shows.log, behind_count earlier new.entries);
         has = standing_reads now new_live.log commits synced shows.log;
-        puts = shows.puts;
+        history = done;
       }) (standing_sound now new_live.log commits synced shows.log)
 
-  stands_crash : (new : Machine) (new_live : Open) → new.begun ≡ true → new.base ≡ machine.base
+  stands_crash : (new : Machine) (new_live : Open) → new.begun ≡ true → new.base ≡ machine.base → IsHistory earlier new.entries
       → OpenShows new_live now (earlier ++ commits_of new.entries) (length earlier + new.synced)
       → Crashes (Leaves first new []) now
-  stands_crash new new_live begun base shows =
+  stands_crash new new_live begun base done shows =
       let commits : List CommitRecord = earlier ++ commits_of new.entries in
       let synced : ℕ = length earlier + new.synced in
-      leaves_as new [] commits synced begun base (no_more new.entries commits refl) refl shows.puts now
+      leaves_as new [] commits synced begun base (no_more new.entries commits refl) refl (none_more new.entries done) now
       (standing_leaves now new_live.log commits synced shows.log)
 
   -- ---- it was done
@@ -214,6 +201,9 @@ module _ (first before now : Past) (node : Node) (live : Open) (machine : Machin
 
     is_done : IsDone e done
     is_done = t.out.0
+
+    all_done : IsHistory earlier all
+    all_done = more_done t.lawful
 
     settled_shows : OpenShows new_live now (earlier ++ commits_of all) (length earlier + settled.synced)
     settled_shows =
@@ -226,9 +216,9 @@ module _ (first before now : Past) (node : Node) (live : Open) (machine : Machin
     is_closed : e.halts ≡ true → HoldsClosed (reads now) settled
     is_closed halts =
         let is : now_of settled ≡ made (earlier ++ commits_of all) =
-        ap (λ (m : Meaning). after (durable_of m) all) base_is ∙ sym (made_behind earlier all) in
+        ap (λ (m : Meaning). after (durable_of m) all) base_is ∙ sym (made_behind earlier all all_done) in
         standing_closed now new_live.log (earlier ++ commits_of all) (length earlier + settled.synced) settled_shows.log (t.out.2 halts)
-        (now_of settled) settled_shows.puts is
+        (now_of settled) settled_shows.taken is
 
     settled_life : (halts : Bool) → halts ≡ e.halts → ShowsLife (if halts then Stopped else Up new_live) now settled earlier
     settled_life true same = (ap (λ (b : Bool). if b then halted else running) (sym same), is_closed (sym same))
@@ -251,10 +241,10 @@ module _ (first before now : Past) (node : Node) (live : Open) (machine : Machin
         entries = settled_count;
         synced = synced_is done.settles e.settles (counted done.wrote node.entries) (length all) node.synced machine.synced is_done.settles
             settled_count h.synced;
-        log = stands_log settled new_live refl settled_shows;
-        leaves = stands_crash settled new_live is_begun refl settled_shows;
+        log = stands_log settled new_live refl all_done settled_shows;
+        leaves = stands_crash settled new_live is_begun refl all_done settled_shows;
       };
-      during = during (answer done.reply) plain.memory (subst ArePuts (sym all_is) settled_shows.puts) t.during;
+      during = during (answer done.reply) plain.memory all_done t.during;
       sound = λ sound. t.sound;
       touches = t.touches;
       number = λ n base is. absurd (starts_none (now_of machine) c n (sym is_done.answer ∙ is));
@@ -275,13 +265,13 @@ module _ (first before now : Past) (node : Node) (live : Open) (machine : Machin
           base = h.base;
           entries = h.entries;
           synced = h.synced;
-          log = stands_log machine new_live refl shows;
-          leaves = stands_crash machine new_live is_begun refl shows;
+          log = stands_log machine new_live refl history shows;
+          leaves = stands_crash machine new_live is_begun refl history shows;
         };
         during = weaker (logs.Leaves (log_commits ++ []) log_synced) (Crashes (Leaves first machine [])) before now
             (leaves_as machine [] (log_commits ++ []) log_synced is_begun refl
             (append-nil log_commits ∙ no_more machine.entries log_commits refl) refl
-            (subst ArePuts (sym (append-nil log_commits)) shows.puts)) t.during;
+            (none_more machine.entries history)) t.during;
         sound = λ sound. t.sound;
         touches = t.touches;
         number = λ n base is. absurd (cc is);
@@ -294,32 +284,31 @@ module _ (first before now : Past) (node : Node) (live : Open) (machine : Machin
   kept_old None entries doubt is = inl (append-nil entries)
   kept_old (Some entry) entries doubt is = inr (is, entry, refl)
 
-  doubted : ArePuts (log_commits ++ appended e)
+  doubted : IsHistory earlier all
       → Reads log_commits (reads now latest) ⊎ Reads (log_commits ++ appended e) (reads now latest)
       → HasKept (stands (made earlier)) (in_doubt e machine) earlier (reads now)
-  doubted puts (inl old) = record {
+  doubted done (inl old) = record {
     base_is = refl;
     kept = machine.entries;
     is_kept = kept_old e.entry machine.entries (is_some e.entry) refl;
     within = within;
     has = old;
-    puts = up_shows.puts;
+    history = done;
   }
-  doubted puts (inr both) = record {
+  doubted done (inr both) = record {
     base_is = refl;
     kept = all;
     is_kept = inl refl;
     within = within_all;
     has = subst (λ cs. Reads cs (reads now latest)) all_is both;
-    puts = subst ArePuts all_is puts;
+    history = done;
   }
 
-  file_steps : (new_live : Open) (name : List ℕ) (doubt : Bool) → ArePuts (appended e)
-      → Tries e log_commits log_synced (Err (File name doubt)) new_live before now
+  file_steps : (new_live : Open) (name : List ℕ) (doubt : Bool) → Tries e log_commits log_synced (Err (File name doubt)) new_live before now
       → Steps first machine (command c) (fault name) node (failed_node (record node { state = Up new_live }) (File name doubt)) before now
-  file_steps new_live name doubt more t =
+  file_steps new_live name doubt t =
       let new : Machine = in_doubt e machine in
-      let puts : ArePuts (log_commits ++ appended e) = All-append IsPut log_commits (appended e) up_shows.puts more in
+      let done : IsHistory earlier all = more_done t.lawful in
       record {
         new = new;
         step = record { alive = alive; change = inl (is_running, failed name, (t.out.0, t.out.1), (refl, refl)) };
@@ -329,22 +318,22 @@ module _ (first before now : Past) (node : Node) (live : Open) (machine : Machin
           base = base_kept node.base machine new earlier is_begun refl refl h.base;
           entries = count_is e.entry doubt node.entries machine.entries t.out.2 h.entries;
           synced = h.synced;
-          log = has_log new refl (doubted puts t.out.3) (at_end (λ past. IsSound past latest) before now t.sound);
+          log = has_log new refl (doubted done t.out.3) (at_end (λ past. IsSound past latest) before now t.sound);
           leaves = leaves_as new [] (log_commits ++ appended e) log_synced is_begun refl
-              (no_more all (log_commits ++ appended e) all_is) refl puts now
+              (no_more all (log_commits ++ appended e) all_is) refl (none_more all done) now
               (at_end (logs.Leaves (log_commits ++ appended e) log_synced) before now t.during);
         };
-        during = during (fault name) refl puts t.during;
+        during = during (fault name) refl done t.during;
         sound = λ sound. t.sound;
         touches = t.touches;
         number = λ n base is. absurd (cc is);
       }
 
-  pub failed_steps : (new_live : Open) (trouble : Trouble) → ArePuts (appended e)
+  pub failed_steps : (new_live : Open) (trouble : Trouble)
       → Tries e log_commits log_synced (Err trouble) new_live before now
       → Steps first machine (command c) (failed_answer trouble) node (failed_node (record node { state = Up new_live }) trouble) before now
-  failed_steps new_live Memory more t = wanted_steps new_live t
-  failed_steps new_live (File name doubt) more t = file_steps new_live name doubt more t
+  failed_steps new_live Memory t = wanted_steps new_live t
+  failed_steps new_live (File name doubt) t = file_steps new_live name doubt t
 
 -- the node as a call left it, with the answer that it gave
 pub steps_at : (first before now : Past) (machine : Machine) (event : Event) (answer given : Answer) (node left new : Node)

@@ -1,7 +1,6 @@
 -- The log's commits as the machine's entries: what stands, and what a crash leaves of it.
-use Rattle.std.proofs.Common.{◌≡◌, ℕ, zero, suc, ◌+◌, ◌-◌, ◌≤◌, Bool, true, false, List, [], ◌∷◌, ◌++◌, length, map, take, Some, refl, sym, ap, ◌∙◌, subst, inl, inr, arith, append_assoc, length-append}
-use Rattle.std.proofs.lemmas.List.{map-append, length-map, take-map}
-use Rattle.std.proofs.lemmas.List.Elements.{All-take}
+use Rattle.std.proofs.Common.{◌≡◌, ℕ, zero, suc, ◌+◌, ◌-◌, ◌≤◌, Bool, true, false, List, [], ◌∷◌, ◌++◌, length, take, drop, Some, sym, ap, ◌∙◌, subst, inl, inr, arith, append_assoc, append-nil, length-append}
+use Rattle.std.proofs.lemmas.List.{map-append, length-map, take-map, take-append-drop}
 use Rattle.std.proofs.Math.Seq.{take-append-add}
 use Rattle.file_trait.specs.DiskModel.{Past, reads, Crashes}
 use Rattle.file_trait.specs.Shown.{ReadsAs}
@@ -15,26 +14,13 @@ use Rattle.txn_log.specs.Commits.{HasCommits}
 use Rattle.txn_log.specs.Logs as logs
 use Rattle.txn_log.specs.Logs.{LogState, Reads, TxnStands, HasFirst}
 use Rattle.txn_log.proofs.CommitLists.{count_items, take_items}
-use Rattle.mn_node.specs.Durable.{Entry, commit, Durable, beginning, after, after_one, made}
-use Rattle.mn_node.specs.Machine.{LeavesAs}
-use Rattle.mn_node.specs.Meaning.{Files, latest, Meaning, stands, broken, Stands, StandsClosed, Means, IsPrefixOf}
-use Rattle.mn_node.specs.Puts.{IsPut, ArePuts}
-use Rattle.mn_node.specs.Shown.{commit_in, commits_of}
+use Rattle.mn_node.specs.Durable.{Entry, Durable, after, made}
+use Rattle.mn_node.specs.Machine.{Machine, IsKept, commit_in, commits_of, LeavesAs}
+use Rattle.mn_node.specs.Meaning.{Files, latest, Meaning, stands, broken, AreTaken, Stands, StandsClosed, Means, IsPrefixOf}
+use Rattle.mn_node.specs.Shown.{IsHistory}
+use Rattle.mn_node.proofs.Histories.{made_behind, taken_all, history_first}
 
 -- ---- commits and entries
-
-pub after_append : (w : Durable) (a b : List Entry) → after w (a ++ b) ≡ after (after w a) b
-after_append w [] b = refl
-after_append w (entry ∷ a) b = after_append (after_one w entry) a b
-
-entries_back : (entries : List Entry) → map commit (commits_of entries) ≡ entries
-entries_back [] = refl
-entries_back (commit c ∷ entries) = ap (λ es. commit c ∷ es) (entries_back entries)
-
-pub made_behind : (earlier : List CommitRecord) (entries : List Entry) → made (earlier ++ commits_of entries) ≡ after (made earlier) entries
-made_behind earlier entries =
-    ap (after beginning) (map-append commit earlier (commits_of entries) ∙ ap (λ es. map commit earlier ++ es) (entries_back entries))
-    ∙ after_append beginning (map commit earlier) entries
 
 pub behind_more : (earlier : List CommitRecord) (entries more : List Entry)
     → (earlier ++ commits_of entries) ++ commits_of more ≡ earlier ++ commits_of (entries ++ more)
@@ -52,32 +38,41 @@ first_behind earlier entries n low =
     ap (λ m. take m (earlier ++ commits_of entries)) more ∙ take-append-add earlier (commits_of entries) (n - length earlier)
     ∙ ap (λ cs. earlier ++ cs) (take-map commit_in (n - length earlier) entries)
 
+-- what was kept is the first ones of the entries
+pub kept_front : (machine : Machine) (kept : List Entry) → IsKept machine kept → (rest : List Entry) × (machine.entries ≡ kept ++ rest)
+kept_front machine kept (inl is) = ([], is ∙ sym (append-nil kept))
+kept_front machine kept (inr (doubt, last, is)) = (last ∷ [], is)
+
 -- ---- directories
 
-pub stands_behind : (earlier : List CommitRecord) (entries : List Entry) (files : Files)
-    → Reads (earlier ++ commits_of entries) (files latest)
-    → ArePuts (earlier ++ commits_of entries) → Stands files (after (made earlier) entries)
-stands_behind earlier entries files has puts = (earlier ++ commits_of entries, has, puts, sym (made_behind earlier entries))
+pub stands_behind : (earlier : List CommitRecord) (entries : List Entry) (files : Files) → IsHistory earlier entries
+    → Reads (earlier ++ commits_of entries) (files latest) → Stands files (after (made earlier) entries)
+stands_behind earlier entries files h has =
+    (earlier ++ commits_of entries, has, taken_all earlier entries h, sym (made_behind earlier entries h))
+
+first_history : (earlier : List CommitRecord) (entries : List Entry) (n : ℕ) → IsHistory earlier entries
+    → IsHistory earlier (take n entries)
+first_history earlier entries n h =
+    history_first earlier (take n entries) (drop n entries) (subst (IsHistory earlier) (sym (take-append-drop n entries)) h)
 
 -- the first commits of a log, with all earlier ones, are the first entries
-pub prefix_behind : (earlier : List CommitRecord) (entries : List Entry) (least : ℕ) (files : Files)
-    → ArePuts (earlier ++ commits_of entries)
+pub prefix_behind : (earlier : List CommitRecord) (entries : List Entry) (least : ℕ) (files : Files) → IsHistory earlier entries
     → ReadsAs latest (HasFirst (earlier ++ commits_of entries) (length earlier + least)) files
     → IsPrefixOf (made earlier) entries least files
-prefix_behind earlier entries least files puts (bytes, there, (n, low, high, has)) =
+prefix_behind earlier entries least files h (bytes, there, (n, low, high, has)) =
     let all : List CommitRecord = earlier ++ commits_of entries in
     let m : ℕ = n - length earlier in
     let first : take n all ≡ earlier ++ commits_of (take m entries) = first_behind earlier entries n (omega (arith, low)) in (
       m,
       omega (arith, low),
       omega (arith, low, high, behind_count earlier entries),
-      stands_behind earlier (take m entries) files (inr (bytes, there, subst (λ cs. HasCommits cs bytes) first has))
-          (subst ArePuts first (All-take IsPut n all puts)),
+      stands_behind earlier (take m entries) files (first_history earlier entries m h)
+          (inr (bytes, there, subst (λ cs. HasCommits cs bytes) first has)),
     )
 
-pub crash_behind : (earlier : List CommitRecord) (entries : List Entry) (least : ℕ) (past : Past) → ArePuts (earlier ++ commits_of entries)
+pub crash_behind : (earlier : List CommitRecord) (entries : List Entry) (least : ℕ) (past : Past) → IsHistory earlier entries
     → logs.Leaves (earlier ++ commits_of entries) (length earlier + least) past → Crashes (IsPrefixOf (made earlier) entries least) past
-crash_behind earlier entries least past puts leaves image is = prefix_behind earlier entries least image puts (leaves image is)
+crash_behind earlier entries least past h leaves image is = prefix_behind earlier entries least image h (leaves image is)
 
 -- ---- a log that stands
 
@@ -93,10 +88,10 @@ module _ (past : Past) (log : LogState) (commits : List CommitRecord) (synced : 
   pub standing_sound : IsSound past latest
   standing_sound = stands_sound past latest log.closed h.items (suc synced) h.stands.stands
 
-  pub standing_closed : log.closed ≡ true → (w : Durable) → ArePuts commits → w ≡ made commits → StandsClosed (reads past) w
-  standing_closed closed w puts is =
+  pub standing_closed : log.closed ≡ true → (w : Durable) → AreTaken commits → w ≡ made commits → StandsClosed (reads past) w
+  standing_closed closed w can is =
       let kept = h.stands.stands in
-      (commits, h.items, h.are, kept.fit, kept.read ∙ ap (λ mark. Some (log_bytes mark h.items)) closed, puts, is)
+      (commits, h.items, h.are, kept.fit, kept.read ∙ ap (λ mark. Some (log_bytes mark h.items)) closed, can, is)
 
   first_commits : (files : Files) → ReadsAs latest (HasPrefix h.items (suc synced)) files → ReadsAs latest (HasFirst commits synced) files
   first_commits files (bytes, there, (zero, low, high, listed)) = absurd (omega (arith, low))
@@ -114,7 +109,7 @@ same_stands files other w same (commits, has, puts, is) = (commits, subst (Reads
 
 same_means : (files other : Files) (meaning : Meaning) → files latest ≡ other latest → Means other meaning → Means files meaning
 same_means files other (stands w) same h = same_stands files other w same h
-same_means files other (broken name at) same (named, wrong) = (named, subst (logs.IsWrong ArePuts at) (sym same) wrong)
+same_means files other (broken name at) same (named, wrong) = (named, subst (logs.IsWrong AreTaken at) (sym same) wrong)
 
 pub same_leaves : (begun : Bool) (base : Meaning) (first : Past) (entries : List Entry) (least : ℕ) (files other : Files)
     → files latest ≡ other latest

@@ -1,194 +1,302 @@
--- What a put and a get do by whether there is the table, and whether it can have the record.
-use Rattle.std.proofs.Common.{◌≡◌, ◌&&◌, ◌^◌, ℕ, Bool, true, false, IsTrue, if◌then◌else◌, List, [], length, Option, None, Some, refl, sym, ap, ◌∙◌, subst}
-use Rattle.std.specs.Prelude.{nat_le}
-use Rattle.term_core.specs.Written.{canon}
+-- The effects of commands by their cases.
+use Rattle.std.proofs.Common.{◌≡◌, ℕ, ◌+◌, ◌<◌, ◌≤◌, ◌^◌, Bool, true, false, if◌then◌else◌, List, [], length, Option, Some, None, is_some, Result, Ok, Err, refl, sym, ap, ◌∙◌, subst, inl, inr, arith}
+use Rattle.std.specs.Prelude.{nat_le, ◌&&◌, ◌==◌, IsSome, IsNone, IsSomeAnd}
 use Rattle.std.specs.Bool.{Decides}
-use Rattle.std.proofs.lemmas.Bool.{le-leb, leb-true}
+use Rattle.std.proofs.lemmas.Bool.{eqb-true, eq-eqb, leb-true}
 use Rattle.std.proofs.lemmas.List.Elements.{All-nil, All-cons}
+use Rattle.std.proofs.lemmas.Bool.Decides.{leb_tells}
 use Rattle.std.proofs.lemmas.Map.Text.{is_eq-slice_cmp}
 use Rattle.std.proofs.lemmas.Slice.Eq.{bytes_eq-Decides}
-use Rattle.std.specs.Str.{bytes_eq}
-use Rattle.std.proofs.Common.{arith, ◌==◌, ◌+◌}
-use Rattle.std.proofs.lemmas.Bool.Decides.{nat_tests}
-use Rattle.term_core.specs.Tree.{Tree, int, atom, tuple, list, bin, Trees, no_trees, tree, count, depth}
+use Rattle.term_core.specs.Tree.{Tree, int, atom, tuple, list, bin, no_trees, tree, count, depth}
+use Rattle.term_core.specs.Written.{canon}
 use Rattle.db_model.specs.Commits.{CommitRecord}
-use Rattle.db_model.specs.Database.{Contents, same_name, records_of}
+use Rattle.db_model.specs.Database.{Table, Database, same_name}
 use Rattle.db_model.specs.Definitions.{Definition}
-use Rattle.mn_node.specs.Durable.{Durable, commit, made, table_name, table_definition, rows_of, definition_in}
-use Rattle.mn_node.specs.Inside.Tries.{appended}
-use Rattle.mn_node.specs.Machine.{Effect, Command, Answer, effect, adds, finds, refuses, no_table, bad_record}
-use Rattle.mn_node.specs.Machine as machine
-use Rattle.mn_node.specs.Puts.{row, IsRow, IsPut, ArePuts, put_of, fits, has_elements}
-use Rattle.mn_node.proofs.Contents.{with_rows, puts_make}
-
--- ---- names
-
-same_is : (name other : List ℕ) → same_name name other ≡ true → name ≡ other
-same_is name other same = decided (bytes_eq name other) (bytes_eq-Decides name other) (sym (is_eq-slice_cmp name other) ∙ same)
-  where
-    decided : (b : Bool) → Decides b (name ≡ other) → b ≡ true → name ≡ other
-    decided true is told = is.0 refl
-    decided false is told = absurd cc
-
-other_is : (name other : List ℕ) → (name ≡ other → ⊥) → same_name name other ≡ false
-other_is name other apart = by (same_name name other) refl
-  where
-    by : (b : Bool) → same_name name other ≡ b → same_name name other ≡ false
-    by true is = absurd (apart (same_is name other is))
-    by false is = is
-
--- ---- records
-
-both : (a b : Bool) → (a && b) ≡ true → (a ≡ true) × (b ≡ true)
-both true true is = (refl, refl)
-both true false is = absurd cc
-both false b is = absurd cc
-
-never_both : (a : Bool) → (a && false) ≡ true → ⊥
-never_both true is = cc
-never_both false is = cc
-
-more_than_two : (more : Trees) → (count more + 1 + 1 + 1 == 2) ≡ false
-more_than_two more = grind (arith, nat_tests)
-
-abbrev the_table : Definition
-the_table = table_definition
-
--- a record of the table is one that its definition allows
-row_fits : (item : Tree) → IsRow item → fits the_table item ≡ true
-row_fits item is =
-    let elements : has_elements the_table item ≡ true = ap (has_elements the_table) is.is in
-    ap (λ b. b && (nat_le (depth item) 100 && nat_le (length (canon item)) (2 ^ 26))) elements
-    ∙ ap (λ b. b && nat_le (length (canon item)) (2 ^ 26)) (le-leb (depth item) 100 is.levels)
-    ∙ le-leb (length (canon item)) (2 ^ 26) is.short
-
-three_in : (item : Tree) → has_elements the_table item ≡ true → (key : Tree) × (value : Tree) × (item ≡ row key value)
-three_in (tuple (tree (atom name) (tree key (tree value no_trees)))) is =
-    let named = both (same_name name table_name) true is in
-    (key, value, ap (λ n. tuple (tree (atom n) (tree key (tree value no_trees)))) (same_is name table_name named.0))
-three_in (tuple (tree (atom name) no_trees)) is = absurd (never_both (same_name name table_name) is)
-three_in (tuple (tree (atom name) (tree key no_trees))) is = absurd (never_both (same_name name table_name) is)
-three_in (tuple (tree (atom name) (tree key (tree value (tree other more))))) is =
-    let size : (count (tree key (tree value (tree other more))) == 2) ≡ false = more_than_two more in
-    absurd (never_both (same_name name table_name) (ap (λ b. same_name name table_name && b) (sym size) ∙ is))
-three_in (tuple (tree (int n) elements)) is = absurd cc
-three_in (tuple (tree (tuple ts) elements)) is = absurd cc
-three_in (tuple (tree (list ts) elements)) is = absurd cc
-three_in (tuple (tree (bin b) elements)) is = absurd cc
-three_in (tuple no_trees) is = absurd cc
-three_in (int n) is = absurd cc
-three_in (atom a) is = absurd cc
-three_in (list ts) is = absurd cc
-three_in (bin b) is = absurd cc
-
-fits_row : (item : Tree) → fits the_table item ≡ true → IsRow item
-fits_row item is =
-    let first = both (has_elements the_table item) (nat_le (depth item) 100 && nat_le (length (canon item)) (2 ^ 26)) is in
-    let limits = both (nat_le (depth item) 100) (nat_le (length (canon item)) (2 ^ 26)) first.1 in
-    let (key, value, shape) = three_in item first.0 in
-    record {
-      key = key;
-      value = value;
-      is = shape;
-      levels = leb-true (depth item) 100 limits.0;
-      short = leb-true (length (canon item)) (2 ^ 26) limits.1;
-    }
-
-unfit : (item : Tree) → (IsRow item → ⊥) → fits the_table item ≡ false
-unfit item none = by (fits the_table item) refl
-  where
-    by : (b : Bool) → fits the_table item ≡ b → fits the_table item ≡ false
-    by true is = absurd (none (fits_row item is))
-    by false is = is
-
--- ---- effects
-
-module _ (contents : Contents) where
-  put_known : (item : Tree) → IsRow item → effect (with_rows contents) (machine.put table_name item) ≡ adds (commit (put_of item))
-  put_known item is = ap (λ b. if b then adds (commit (put_of item)) else refuses (bad_record item)) (row_fits item is)
-
-  put_unfit : (item : Tree) → (IsRow item → ⊥) → effect (with_rows contents) (machine.put table_name item) ≡ refuses (bad_record item)
-  put_unfit item none = ap (λ b. if b then adds (commit (put_of item)) else refuses (bad_record item)) (unfit item none)
-
-  none_called : (name : List ℕ) → (name ≡ table_name → ⊥) → definition_in name (with_rows contents).database.tables ≡ None
-  none_called name other = ap (λ b. if b then Some the_table else None) (other_is name table_name other)
-
-  put_unknown : (name : List ℕ) (item : Tree) → (name ≡ table_name → ⊥)
-      → effect (with_rows contents) (machine.put name item) ≡ refuses (no_table name)
-  put_unknown name item other =
-      ap (λ d. machine.put_effect d (with_rows contents) name item) (none_called name other)
-
-  get_unknown : (name : List ℕ) (key : Tree) → (name ≡ table_name → ⊥)
-      → effect (with_rows contents) (machine.get name key) ≡ refuses (no_table name)
-  get_unknown name key other =
-      ap (λ d. machine.get_effect d (with_rows contents) name key) (none_called name other)
-
-  -- what a command appends is the put of a record
-  appended_puts : (c : Command) → ArePuts (appended (effect (with_rows contents) c))
-  appended_puts (machine.put name item) = by (same_name name table_name) refl
-    where
-      fitting : (b : Bool) → fits the_table item ≡ b
-          → ArePuts (appended (if b then adds (commit (put_of item)) else refuses (bad_record item)))
-      fitting true is = All-cons IsPut (put_of item) [] (item, fits_row item is, refl) (All-nil IsPut)
-      fitting false is = All-nil IsPut
-
-      by : (b : Bool) → same_name name table_name ≡ b → ArePuts (appended (effect (with_rows contents) (machine.put name item)))
-      by true is =
-          subst (λ n. ArePuts (appended (effect (with_rows contents) (machine.put n item)))) (sym (same_is name table_name is))
-          (fitting (fits the_table item) refl)
-      by false is =
-          subst (λ e. ArePuts (appended e)) (sym (put_unknown name item (λ same.
-          let yes = ap (λ n. same_name n table_name) same in absurd (cc (sym is ∙ yes))))) (All-nil IsPut)
-  appended_puts (machine.get name key) = by (definition_in name (with_rows contents).database.tables)
-    where
-      by : (d : Option Definition) → ArePuts (appended (machine.get_effect d (with_rows contents) name key))
-      by None = All-nil IsPut
-      by (Some d) = All-nil IsPut
-  appended_puts machine.sync_log = All-nil IsPut
-  appended_puts machine.stop = All-nil IsPut
-
--- ---- the same of what puts make
-
-pub asked_puts : (commits : List CommitRecord) (c : Command) → ArePuts commits → ArePuts (appended (effect (made commits) c))
-asked_puts commits c puts =
-    let (contents, is) = puts_make commits puts in
-    subst (λ (w : Durable). ArePuts (appended (effect w c))) (sym is) (appended_puts contents c)
-
-module _ (commits : List CommitRecord) (puts : ArePuts commits) where
-  pub puts_known : (name : List ℕ) (item : Tree) → name ≡ table_name → IsRow item
-      → effect (made commits) (machine.put name item) ≡ adds (commit (put_of item))
-  puts_known name item same is =
-      let (contents, made_is) = puts_make commits puts in
-      ap (λ n. effect (made commits) (machine.put n item)) same ∙ ap (λ w. effect w (machine.put table_name item)) made_is
-      ∙ put_known contents item is
-
-  pub puts_unfit : (name : List ℕ) (item : Tree) → name ≡ table_name → (IsRow item → ⊥)
-      → effect (made commits) (machine.put name item) ≡ refuses (bad_record item)
-  puts_unfit name item same none =
-      let (contents, made_is) = puts_make commits puts in
-      ap (λ n. effect (made commits) (machine.put n item)) same ∙ ap (λ w. effect w (machine.put table_name item)) made_is
-      ∙ put_unfit contents item none
-
-  pub puts_unknown : (name : List ℕ) (item : Tree) → (name ≡ table_name → ⊥)
-      → effect (made commits) (machine.put name item) ≡ refuses (no_table name)
-  puts_unknown name item other =
-      let (contents, made_is) = puts_make commits puts in
-      ap (λ w. effect w (machine.put name item)) made_is ∙ put_unknown contents name item other
-
-  pub gets_unknown : (name : List ℕ) (key : Tree) → (name ≡ table_name → ⊥)
-      → effect (made commits) (machine.get name key) ≡ refuses (no_table name)
-  gets_unknown name key other =
-      let (contents, made_is) = puts_make commits puts in
-      ap (λ w. effect w (machine.get name key)) made_is ∙ get_unknown contents name key other
-
-  pub gets_known : (name : List ℕ) (key : Tree) → name ≡ table_name
-      → effect (made commits) (machine.get name key) ≡ finds (records_of key (rows_of (made commits)))
-  gets_known name key same =
-      let (contents, made_is) = puts_make commits puts in
-      ap (λ n. effect (made commits) (machine.get n key)) same ∙ ap (λ w. effect w (machine.get table_name key)) made_is
-      ∙ ap (λ w. finds (records_of key (rows_of w))) (sym made_is)
+use Rattle.db_model.specs.Lawful.{table_in, IsLawful, IsAllowedIn, HasCookie}
+use Rattle.db_state.specs.Live.{database}
+use Rattle.file_trait.specs.DiskModel.{Past}
+use Rattle.db_model.specs.Ops.{write}
+use Rattle.db_model.specs.Records.{HasElements, Fits}
+use Rattle.txn_log.specs.Commits.{commit_text}
+use Rattle.schema_txn.specs.Commands.{create_commit, delete_commit, RefusesCreate, RefusesDelete}
+use Rattle.schema_txn.specs.declared.error.SchemaErr.{SchemaErr}
+use Rattle.schema_txn.specs.declared.error.SchemaErr.TheVariants as refusals
+use Rattle.mn_node.specs.Effects.{Answer, exists, no_table, bad_record, bad_name, bad_option, too_many_tables, too_many_versions, too_long, Effect, refuses, unless, adds, commits, length_refusal, has_elements, fits, write_of, put_effect, version_refusal, create_refusal, delete_refusal, create_effect, delete_effect}
+use Rattle.mn_node.specs.Durable.{made}
+use Rattle.db_model.specs.declared.error.DefErr.{DefErr}
+use Rattle.db_model.specs.declared.error.DefErr.TheVariants as ill
+use Rattle.mn_node.specs.Inside.Tries.{Tries, IsRefusalOf, IsUndefined, only}
+use Rattle.mn_node.specs.Seen.{answer}
+use Rattle.mn_node.specs.Shown.{OpenShows}
+use Rattle.mn_node.specs.declared.open.Done.{Done}
+use Rattle.mn_node.specs.declared.open.Open.{Open}
+use Rattle.mn_node.specs.declared.open.Trouble.{Trouble}
+use Rattle.mn_node.specs.declared.open.Trouble.TheVariants.{Memory}
+use Rattle.mn_node.specs.declared.reply.Reply.{Reply}
+use Rattle.mn_node.specs.declared.reply.Reply.TheVariants as replies
+use Rattle.mn_node.proofs.Acts.{IsAnswered, refuses_answered, only_told, wanted_memory}
 
 -- ---- tests
 
-pub untold : (b : Bool) → b ≡ false → IsTrue b → ⊥
-untold b lacks has = let other = sym lacks ∙ has in cc
+pub le_true : (n m : ℕ) → n ≤ m → nat_le n m ≡ true
+le_true n m h = elim (leb_tells n m) [ inl t ↦ t.0 | inr f ↦ absurd (let over = f.1 in omega (arith, h, over)) ]
+
+pub le_false : (n m : ℕ) → m < n → nat_le n m ≡ false
+le_false n m h = elim (leb_tells n m) [ inl t ↦ absurd (let within = t.1 in omega (arith, h, within)) | inr f ↦ f.0 ]
+
+and_true : (a b : Bool) → (a && b) ≡ true → (a ≡ true) × (b ≡ true)
+and_true true b h = (refl, h)
+and_true false b h = absurd (cc)
+
+both_true : (a b : Bool) → a ≡ true → b ≡ true → (a && b) ≡ true
+both_true a b x y = ap (λ (t : Bool). t && b) x ∙ y
+
+-- ---- a record of a table
+
+same_name_is : (name other : List ℕ) → Decides (same_name name other) (name ≡ other)
+same_name_is name other = (
+  λ is. (bytes_eq-Decides name other).0 (sym (is_eq-slice_cmp name other) ∙ is),
+  λ is. is_eq-slice_cmp name other ∙ (bytes_eq-Decides name other).1 is,
+)
+
+number_is : (n m : ℕ) → Decides (n == m) (n ≡ m)
+number_is n m = (λ is. eqb-true n m is, λ is. eq-eqb n m is)
+
+elements_is : (d : Definition) (t : Tree) → Decides (has_elements d t) (HasElements d t)
+elements_is d (int n) = (λ is. absurd (cc is), λ h. absurd h)
+elements_is d (atom a) = (λ is. absurd (cc is), λ h. absurd h)
+elements_is d (list ts) = (λ is. absurd (cc is), λ h. absurd h)
+elements_is d (bin b) = (λ is. absurd (cc is), λ h. absurd h)
+elements_is d (tuple no_trees) = (λ is. absurd (cc is), λ h. absurd h)
+elements_is d (tuple (tree (int n) ts)) = (λ is. absurd (cc is), λ h. absurd h)
+elements_is d (tuple (tree (list us) ts)) = (λ is. absurd (cc is), λ h. absurd h)
+elements_is d (tuple (tree (bin b) ts)) = (λ is. absurd (cc is), λ h. absurd h)
+elements_is d (tuple (tree (tuple us) ts)) = (λ is. absurd (cc is), λ h. absurd h)
+elements_is d (tuple (tree (atom a) ts)) = (
+  λ is. let parts = and_true (same_name a d.record_name) (count ts == length d.attributes) is in
+      ((same_name_is a d.record_name).0 parts.0, (number_is (count ts) (length d.attributes)).0 parts.1),
+  λ h. both_true (same_name a d.record_name) (count ts == length d.attributes) ((same_name_is a d.record_name).1 h.0)
+      ((number_is (count ts) (length d.attributes)).1 h.1),
+)
+
+pub fits_is : (d : Definition) (t : Tree) → Decides (fits d t) (Fits d t)
+fits_is d t = (
+  λ is. let parts = and_true (has_elements d t) (nat_le (depth t) 100 && nat_le (length (canon t)) (2 ^ 26)) is in
+      let small = and_true (nat_le (depth t) 100) (nat_le (length (canon t)) (2 ^ 26)) parts.1 in (
+        (elements_is d t).0 parts.0,
+        record {
+          levels = leb-true (depth t) 100 small.0;
+          short = leb-true (length (canon t)) (2 ^ 26) small.1;
+        },
+      ),
+  λ h. both_true (has_elements d t) (nat_le (depth t) 100 && nat_le (length (canon t)) (2 ^ 26)) ((elements_is d t).1 h.0)
+      (both_true (nat_le (depth t) 100) (nat_le (length (canon t)) (2 ^ 26)) (le_true (depth t) 100 h.1.levels)
+      (le_true (length (canon t)) (2 ^ 26) h.1.short)),
+)
+
+-- ---- a put
+
+pub put_unknown : (found : Option Table) (version : ℕ) (name : List ℕ) (item : Tree) → found ≡ None
+    → put_effect found version name item ≡ refuses (no_table name)
+put_unknown found version name item is = ap (λ (f : Option Table). put_effect f version name item) is
+
+abbrev put_if : (b : Bool) (version : ℕ) (name : List ℕ) (item : Tree) → Effect
+put_if b version name item = if b then commits false (write_of version name item) else refuses (bad_record item)
+
+pub put_unfit : (found : Option Table) (table : Table) (version : ℕ) (name : List ℕ) (item : Tree) → found ≡ Some table
+    → (Fits table.definition item → ⊥) → put_effect found version name item ≡ refuses (bad_record item)
+put_unfit found table version name item is unfit =
+    ap (λ (f : Option Table). put_effect f version name item) is ∙ by (fits table.definition item) refl
+  where
+    by : (b : Bool) → fits table.definition item ≡ b → put_if b version name item ≡ refuses (bad_record item)
+    by true fit = absurd (unfit ((fits_is table.definition item).0 fit))
+    by false fit = refl
+
+pub put_known : (found : Option Table) (table : Table) (version : ℕ) (name : List ℕ) (item : Tree) → found ≡ Some table
+    → Fits table.definition item → put_effect found version name item ≡ commits false (write_of version name item)
+put_known found table version name item is fit =
+    ap (λ (f : Option Table). put_effect f version name item) is
+    ∙ ap (λ (b : Bool). put_if b version name item) ((fits_is table.definition item).1 fit)
+
+-- it is lawful where the table stands and can have the record
+pub write_lawful : (database : Database) (table : Table) (name : List ℕ) (item : Tree) → table_in name database.tables ≡ Some table
+    → Fits table.definition item → IsLawful (write_of database.version name item) database
+write_lawful database table name item is fit = record {
+  version = refl;
+  applies = tt;
+  cookies = All-nil (HasCookie database.version);
+  allowed = All-cons (IsAllowedIn database.tables) (write name item) [] allowed (All-nil (IsAllowedIn database.tables));
+}
+  where
+    allowed : IsAllowedIn database.tables (write name item)
+    allowed = subst (λ (f : Option Table). IsSomeAnd f (λ t. Fits t.definition item)) (sym is) fit
+
+-- ---- a commit
+
+pub short_commit : (settles : Bool) (c : CommitRecord) → length (commit_text c) ≤ 2 ^ 28 → commits settles c ≡ adds settles c
+short_commit settles c h =
+    ap (λ (b : Bool). unless (if b then None else Some too_long) (adds settles c)) (le_true (length (commit_text c)) (2 ^ 28) h)
+
+pub long_commit : (settles : Bool) (c : CommitRecord) → 2 ^ 28 < length (commit_text c) → IsAnswered (commits settles c) too_long
+long_commit settles c h =
+    let is = ap (λ (b : Bool). unless (if b then None else Some too_long) (adds settles c))
+    (le_false (length (commit_text c)) (2 ^ 28) h) in
+    record {
+      answer = ap (λ (e : Effect). e.answer) is;
+      entry = ap (λ (e : Effect). e.entry) is;
+      settles = ap (λ (e : Effect). e.settles) is;
+      halts = ap (λ (e : Effect). e.halts) is;
+    }
+
+-- ---- refusals of commands on tables
+
+none_is_none : {T : Type 0} (found : Option T) → IsNone found → is_some found ≡ false
+none_is_none None h = refl
+none_is_none (Some x) h = absurd (cc h)
+
+some_is_some : {T : Type 0} (found : Option T) → IsSome found → is_some found ≡ true
+some_is_some None h = absurd (cc h)
+some_is_some (Some x) h = refl
+
+refused_answered : (refusal : Option Answer) (answer : Answer) (e : Effect) → e.halts ≡ false → refusal ≡ Some answer
+    → IsAnswered (unless refusal e) answer
+refused_answered refusal answer e halts is =
+    subst (λ (r : Option Answer). IsAnswered (unless r e) answer) (sym is)
+    (record { answer = refl; entry = refl; settles = refl; halts = halts })
+
+free_if : (b c d : Bool) (one two three : Answer) → b ≡ false → c ≡ false → d ≡ false
+    → (if b then Some one else (if c then Some two else (if d then Some three else None))) ≡ None
+free_if b c d one two three x y z =
+    ap (λ (t : Bool). if t then Some one else (if c then Some two else (if d then Some three else None))) x
+    ∙ ap (λ (t : Bool). if t then Some two else (if d then Some three else None)) y
+    ∙ ap (λ (t : Bool). if t then Some three else None) z
+
+-- the refusals of a new table, by whether one of the name was found
+abbrev unless_found : List ℕ → Database → Bool → Option Answer
+unless_found name database found =
+    if found then Some (exists name)
+    else (if nat_le 1000 (length database.tables) then Some too_many_tables else version_refusal database)
+
+-- where the commit is lawful nothing refuses it
+pub create_free : (database : Database) (d : Definition) (name : List ℕ) → d.name ≡ name → IsLawful (create_commit d database) database
+    → create_effect database name (Ok d) ≡ commits true (create_commit d database)
+create_free database d name same lawful =
+    let none : is_some (table_in name database.tables) ≡ false =
+    ap (λ (n : List ℕ). is_some (table_in n database.tables)) (sym same)
+    ∙ none_is_none (table_in d.name database.tables) lawful.applies.0.1 in
+    ap (λ (r : Option Answer). unless r (commits true (create_commit d database)))
+    (free_if (is_some (table_in name database.tables)) (nat_le 1000 (length database.tables)) (nat_le (2 ^ 64) (database.version + 1))
+    (exists name) too_many_tables too_many_versions none (le_false 1000 (length database.tables) lawful.applies.0.2)
+    (le_false (2 ^ 64) (database.version + 1) lawful.version.1))
+
+some_name : (database : Database) (name : List ℕ) → IsSome (table_in name database.tables) → is_some (table_in name database.tables) ≡ true
+some_name database name stands = some_is_some (table_in name database.tables) stands
+
+pub delete_free : (database : Database) (name : List ℕ) → IsLawful (delete_commit name database) database
+    → delete_effect database name ≡ commits true (delete_commit name database)
+delete_free database name lawful =
+    ap (λ (r : Option Answer). unless r (commits true (delete_commit name database)))
+    (ap (λ (b : Bool). if b then version_refusal database else Some (no_table name)) (some_name database name lawful.applies.0)
+    ∙ ap (λ (b : Bool). if b then Some too_many_versions else None) (le_false (2 ^ 64) (database.version + 1) lawful.version.1))
+
+takes_yet : (refusal : Option Answer) (e : Effect) → e.takes_memory ≡ true → (unless refusal e).takes_memory ≡ true
+takes_yet None e is = is
+takes_yet (Some answer) e is = is
+
+pub commits_take : (settles : Bool) (c : CommitRecord) → (commits settles c).takes_memory ≡ true
+commits_take settles c = takes_yet (length_refusal c) (adds settles c) refl
+
+halts_never : (refusal : Option Answer) (e : Effect) → e.halts ≡ false → (unless refusal e).halts ≡ false
+halts_never None e is = is
+halts_never (Some answer) e is = is
+
+commits_on : (settles : Bool) (c : CommitRecord) → (commits settles c).halts ≡ false
+commits_on settles c = halts_never (length_refusal c) (adds settles c) refl
+
+module _ {live : Open} {past : Past} {commits_of_log : List CommitRecord} {synced : ℕ}
+    (shown : OpenShows live past commits_of_log synced) where
+  abbrev base : Database
+  base = (made commits_of_log).database
+
+  told_as : (e : Effect) (reply : Reply) (result : Result Done Trouble) → result ≡ Ok (only reply) → IsAnswered e (answer reply)
+      → Tries e commits_of_log synced result live past past
+  told_as e reply result is answered =
+      subst (λ r. Tries e commits_of_log synced r live past past) (sym is) (only_told shown e reply (only reply) answered refl)
+
+  wants_as : (e : Effect) (result : Result Done Trouble) → result ≡ Err Memory → e.takes_memory ≡ true
+      → Tries e commits_of_log synced result live past past
+  wants_as e result is takes = subst (λ r. Tries e commits_of_log synced r live past past) (sym is) (wanted_memory shown e takes)
+
+  pub create_refused : (d : Definition) (name : List ℕ) (error : SchemaErr) (result : Result Done Trouble) → d.name ≡ name
+      → RefusesCreate error d (database live.tables) → IsRefusalOf error name result
+      → Tries (create_effect base name (Ok d)) commits_of_log synced result live past past
+  create_refused d name error result same why is = by error (subst (RefusesCreate error d) shown.same why) is
+    where
+      c : CommitRecord
+      c = create_commit d base
+
+      found : List ℕ → Bool
+      found n = is_some (table_in n base.tables)
+
+      by : (error : SchemaErr) → RefusesCreate error d base → IsRefusalOf error name result
+          → Tries (create_effect base name (Ok d)) commits_of_log synced result live past past
+      by (refusals.Exists other) (named, there) is =
+          told_as _ (replies.Exists name) result is (refused_answered (create_refusal name base) (exists name) (commits true c)
+          (commits_on true c)
+          (ap (unless_found name base)
+          (ap found (sym same)
+          ∙ some_is_some (table_in d.name base.tables) (subst (λ (n : List ℕ). IsSome (table_in n base.tables)) named there))))
+      by refusals.NoTable never is = absurd never
+      by refusals.TooManyTables (none, many) is =
+          told_as _ replies.TooManyTables result is (refused_answered (create_refusal name base) too_many_tables (commits true c)
+          (commits_on true c)
+          (ap (unless_found name base)
+          (ap found (sym same) ∙ none_is_none (table_in d.name base.tables) none)
+          ∙ ap (λ (b : Bool). if b then Some too_many_tables else version_refusal base) (le_true 1000 (length base.tables) many)))
+      by refusals.TooManyVersions (none, few, last) is =
+          told_as _ replies.TooManyVersions result is (refused_answered (create_refusal name base) too_many_versions (commits true c)
+          (commits_on true c)
+          (ap (unless_found name base)
+          (ap found (sym same) ∙ none_is_none (table_in d.name base.tables) none)
+          ∙ ap (λ (b : Bool). if b then Some too_many_tables else version_refusal base) (le_false 1000 (length base.tables) few)
+          ∙ ap (λ (b : Bool). if b then Some too_many_versions else None) (le_true (2 ^ 64) (base.version + 1) last)))
+      by refusals.Memory h is = wants_as _ result is (takes_yet (create_refusal name base) (commits true c) (commits_take true c))
+
+  -- the options define none
+  pub create_undefined : (name : List ℕ) (error : DefErr) (result : Result Done Trouble) → IsUndefined error name result
+      → Tries (create_effect base name (Err error)) commits_of_log synced result live past past
+  create_undefined name ill.BadName result is =
+      told_as _ (replies.BadName name) result is (refuses_answered _ (bad_name name) refl)
+  create_undefined name (ill.BadOption place) result is =
+      told_as _ (replies.BadOption place) result is (refuses_answered _ (bad_option place) refl)
+  create_undefined name ill.Memory result is = wants_as _ result is refl
+
+  -- no table of this name stands
+  pub delete_unknown : (name : List ℕ) → table_in name base.tables ≡ None → IsAnswered (delete_effect base name) (no_table name)
+  delete_unknown name none =
+      refused_answered (delete_refusal name base) (no_table name) (commits true (delete_commit name base))
+      (commits_on true (delete_commit name base))
+      (ap (λ (f : Option Table). if is_some f then version_refusal base else Some (no_table name)) none)
+
+  pub delete_refused : (name : List ℕ) (error : SchemaErr) (result : Result Done Trouble)
+      → RefusesDelete error name (database live.tables) → IsRefusalOf error name result
+      → Tries (delete_effect base name) commits_of_log synced result live past past
+  delete_refused name error result why is = by error (subst (RefusesDelete error name) shown.same why) is
+    where
+      c : CommitRecord
+      c = delete_commit name base
+
+      by : (error : SchemaErr) → RefusesDelete error name base → IsRefusalOf error name result
+          → Tries (delete_effect base name) commits_of_log synced result live past past
+      by (refusals.Exists other) never is = absurd never
+      by refusals.NoTable none is =
+          told_as _ (replies.NoTable name) result is (refused_answered (delete_refusal name base) (no_table name) (commits true c)
+          (commits_on true c)
+          (ap (λ (b : Bool). if b then version_refusal base else Some (no_table name)) (none_is_none (table_in name base.tables) none)))
+      by refusals.TooManyTables never is = absurd never
+      by refusals.TooManyVersions (there, last) is =
+          told_as _ replies.TooManyVersions result is (refused_answered (delete_refusal name base) too_many_versions (commits true c)
+          (commits_on true c)
+          (ap (λ (b : Bool). if b then version_refusal base else Some (no_table name)) (some_is_some (table_in name base.tables) there)
+          ∙ ap (λ (b : Bool). if b then Some too_many_versions else None) (le_true (2 ^ 64) (base.version + 1) last)))
+      by refusals.Memory h is = wants_as _ result is (takes_yet (delete_refusal name base) (commits true c) (commits_take true c))

@@ -4,7 +4,7 @@ use Rattle.file_trait.specs.Counts.{Rose}
 use Rattle.file_trait.specs.DiskModel.{Past}
 use Rattle.file_trait.specs.Touched.{Touches}
 use Rattle.txn_log.specs.Logs.{IsLogName}
-use Rattle.mn_node.specs.Machine.{Answer, fault, damaged}
+use Rattle.mn_node.specs.Effects.{Answer, fault, damaged}
 use Rattle.mn_node.specs.Shown.{HasLogOf, IsFaulted, IsWhole, IsFew}
 use Rattle.mn_node.specs.declared.node.Node.{Node}
 

@@ -1,22 +1,15 @@
 -- The machine: its states and its steps.
-use Rattle.std.specs.Prelude.{◌≡◌, ◌⊎◌, ℕ, ◌≤◌, Bool, true, false, ◌||◌, IsTrue, if◌then◌else◌, List, [], ◌∷◌, ◌++◌, length, Option, Some, None, is_some}
-use Rattle.term_core.specs.Tree.{Tree}
+use Rattle.std.specs.Prelude.{◌≡◌, ◌⊎◌, ℕ, ◌≤◌, Bool, true, false, IsTrue, if◌then◌else◌, List, [], ◌∷◌, ◌++◌, length, map, Option, Some, None, is_some}
 use Rattle.file_trait.specs.DiskModel.{Past}
-use Rattle.db_model.specs.Database.{records_of, contents_in}
-use Rattle.db_model.specs.Definitions.{Definition}
+use Rattle.db_model.specs.Commits.{CommitRecord}
+use Rattle.db_model.specs.Histories.{AreLawful}
+use Rattle.db_model.specs.Lawful.{IsSound}
 use Rattle.txn_log.specs.Logs.{IsLogName}
-use Rattle.mn_node.specs.Durable.{Entry, commit, Durable, beginning, definition_in, after, boot}
+use Rattle.mn_node.specs.Durable.{Entry, commit, Durable, beginning, after, boot}
+use Rattle.mn_node.specs.Effects.{Command, stop, Answer, started, bad_line, silent, is_down, is_up, no_memory, fault, damaged, is_no_memory, Effect, effect, goes_to_disk}
 use Rattle.mn_node.specs.Meaning.{Files, latest, Meaning, stands, broken, Stands, StandsClosed, IsBroken, IsPrefixOf, IsOldOr}
-use Rattle.mn_node.specs.Puts.{fits, write_of}
 
--- ---- what is asked and answered
-
--- what a node that is up is asked
-pub data Command : Type 0 where
-  put : (table : List ℕ) (item : Tree) → Command
-  get : (table : List ℕ) (key : Tree) → Command
-  sync_log : Command
-  stop : Command
+-- ---- events
 
 pub data Event : Type 0 where
   start : Event
@@ -27,87 +20,6 @@ pub data Event : Type 0 where
   turn : Event
   -- the script's end, at which the node is stopped
   end : Event
-
-pub data Answer : Type 0 where
-  -- of the entries since the last good start so many were kept
-  started : (n : ℕ) → Answer
-  done : Answer
-  found : (records : List Tree) → Answer
-  synced : Answer
-  stopped : Answer
-  -- refused, and nothing is done: there is no table of this name, or it can have no such record
-  no_table : (name : List ℕ) → Answer
-  bad_record : (item : Tree) → Answer
-  bad_line : (at : ℕ) → Answer
-  -- a turn is not answered
-  silent : Answer
-  -- the node is down, and the command is no start
-  is_down : Answer
-  -- the node is up, and the command is a start
-  is_up : Answer
-  no_memory : Answer
-  -- the disk failed at the file of this name
-  fault : (name : List ℕ) → Answer
-  -- the file of this name has no meaning, from this place on
-  damaged : (name : List ℕ) (at : ℕ) → Answer
-
-abbrev pub is_no_memory : Answer → Bool
-is_no_memory no_memory = true
-is_no_memory other = false
-
-abbrev pub is_fault : Answer → Bool
-is_fault (fault name) = true
-is_fault other = false
-
--- ---- what a command does
-
-pub record Effect : Type 0 where
-  pub answer : Answer
-  -- what is appended to the log
-  pub entry : Option Entry
-  -- all is durable behind it
-  pub settles : Bool
-  -- the machine is down behind it
-  pub halts : Bool
-  -- it takes memory, and want of it may be answered in its place
-  pub takes_memory : Bool
-
-abbrev pub adds : Entry → Effect
-adds entry = record { answer = done; entry = Some entry; settles = false; halts = false; takes_memory = true }
-
-abbrev pub has_records : List Tree → Bool
-has_records [] = false
-has_records (row ∷ rows) = true
-
--- the copies of the records take memory, and no records take none
-abbrev pub finds : List Tree → Effect
-finds records =
-    record { answer = found records; entry = None; settles = false; halts = false; takes_memory = has_records records }
-
--- only an answer
-abbrev pub refuses : Answer → Effect
-refuses answer = record { answer = answer; entry = None; settles = false; halts = false; takes_memory = false }
-
--- by the definition of the table, where there is one
-abbrev pub put_effect : Option Definition → Durable → List ℕ → Tree → Effect
-put_effect None w table item = refuses (no_table table)
-put_effect (Some definition) w table item =
-    if fits definition item then adds (commit (write_of w.database.version table item)) else refuses (bad_record item)
-
-abbrev pub get_effect : Option Definition → Durable → List ℕ → Tree → Effect
-get_effect None w table key = refuses (no_table table)
-get_effect (Some definition) w table key = finds (records_of key (contents_in table w.database.tables))
-
--- the effect of each command, where the durable state is this
-abbrev pub effect : Durable → Command → Effect
-effect w (put table item) = put_effect (definition_in table w.database.tables) w table item
-effect w (get table key) = get_effect (definition_in table w.database.tables) w table key
-effect w sync_log = record { answer = synced; entry = None; settles = true; halts = false; takes_memory = false }
-effect w stop = record { answer = stopped; entry = None; settles = true; halts = true; takes_memory = true }
-
--- it goes to the disk
-abbrev pub goes_to_disk : Effect → Bool
-goes_to_disk e = is_some e.entry || e.settles
 
 -- ---- states
 
@@ -156,6 +68,25 @@ durable_of (broken name at) = beginning
 abbrev pub now_of : Machine → Durable
 now_of machine = after (durable_of machine.base) machine.entries
 
+abbrev pub commit_in : Entry → CommitRecord
+commit_in (commit c) = c
+
+abbrev pub commits_of : List Entry → List CommitRecord
+commits_of entries = map commit_in entries
+
+-- Each entry was lawful when it was done, on a database of which no table is newer than its version: then a start takes
+-- them as they were done.
+abbrev pub AreDone : List Entry → Durable → Type 0
+AreDone entries w = IsSound w.database × AreLawful (commits_of entries) w.database
+
+-- so it is of a machine whose directory had a meaning
+abbrev pub KeepsAs : Meaning → List Entry → Type 0
+KeepsAs (stands w) entries = AreDone entries w
+KeepsAs (broken name at) entries = Unit {0}
+
+abbrev pub IsLawfulMachine : Machine → Type 0
+IsLawfulMachine machine = KeepsAs machine.base machine.entries
+
 abbrev pub entries_of : Option Entry → List Entry
 entries_of None = []
 entries_of (Some entry) = entry ∷ []
@@ -181,7 +112,8 @@ IsKept machine kept =
 
 abbrev pub booted : Durable → List Entry → Machine
 booted w kept =
-    record { base = stands (boot (after w kept)); entries = []; synced = 0; doubt = false; life = running; begun = true }
+    let base = stands (boot (after w kept)) in
+    record { base = base; entries = []; synced = 0; doubt = false; life = running; begun = true }
 
 -- ---- steps
 

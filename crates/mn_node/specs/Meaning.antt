@@ -3,11 +3,11 @@ use Rattle.std.specs.Prelude.{◌≡◌, ◌⊎◌, ℕ, ◌≤◌, true, List, 
 use Rattle.file_trait.specs.DiskModel.{Past, IsImage}
 use Rattle.log_items.specs.Items.{log_bytes, AreContents}
 use Rattle.db_model.specs.Commits.{CommitRecord}
+use Rattle.db_model.specs.Histories.{no_database, CanTakeAll}
 use Rattle.txn_log.specs.Commits.{AreItemsOf}
 use Rattle.txn_log.specs.Logs as logs
 use Rattle.txn_log.specs.Logs.{Reads, IsWrong}
 use Rattle.mn_node.specs.Durable.{Entry, Durable, after, made}
-use Rattle.mn_node.specs.Puts.{ArePuts}
 
 -- the files of a directory, by their names
 abbrev pub Files : Type 0
@@ -21,14 +21,18 @@ pub data Meaning : Type 0 where
   stands : (w : Durable) → Meaning
   broken : (file : List ℕ) (at : ℕ) → Meaning
 
+-- a start can take these commits of a log, from the first
+abbrev pub AreTaken : List CommitRecord → Type 0
+AreTaken commits = CanTakeAll commits no_database
+
 -- The files stand for what the commits of the log make, and no log for no commits. Of an open log these are its
 -- longest run of whole items: what stands behind that is no commit.
 abbrev pub Stands : Files → Durable → Type 0
-Stands files w = (commits : List CommitRecord) × Reads commits (files latest) × ArePuts commits × (w ≡ made commits)
+Stands files w = (commits : List CommitRecord) × Reads commits (files latest) × AreTaken commits × (w ≡ made commits)
 
--- the log is no file of items, or one with another item, from this place on
+-- the log is no file of items, or one with an item that is no commit which a start can take there, from this place on
 abbrev pub IsBroken : Files → List ℕ → ℕ → Type 0
-IsBroken files name at = (name ≡ latest) × IsWrong ArePuts at (files latest)
+IsBroken files name at = (name ≡ latest) × IsWrong AreTaken at (files latest)
 
 abbrev pub Means : Files → Meaning → Type 0
 Means files (stands w) = Stands files w
@@ -38,7 +42,7 @@ Means files (broken name at) = IsBroken files name at
 abbrev pub StandsClosed : Files → Durable → Type 0
 StandsClosed files w =
     (commits : List CommitRecord) × (items : List (List ℕ)) × AreItemsOf commits items × AreContents items
-    × (files latest ≡ Some (log_bytes true items)) × ArePuts commits × (w ≡ made commits)
+    × (files latest ≡ Some (log_bytes true items)) × AreTaken commits × (w ≡ made commits)
 
 -- the files stand for what the first ones of these entries make, and at least so many
 abbrev pub IsPrefixOf : Durable → List Entry → ℕ → Files → Type 0

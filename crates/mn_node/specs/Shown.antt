@@ -1,36 +1,34 @@
 -- What a node and its disk stand for.
-use Rattle.std.specs.Prelude.{◌≡◌, ℕ, ◌+◌, ◌≤◌, ◌<◌, ◌^◌, true, false, List, [], ◌++◌, length, map, Option, Some, None}
-use Rattle.term_core.specs.Tree.{Tree}
-use Rattle.term_core.specs.View.{tree_of}
+use Rattle.std.specs.Prelude.{◌≡◌, ℕ, ◌+◌, ◌≤◌, ◌<◌, ◌^◌, true, false, List, [], ◌++◌, length, Option, Some, None}
 use Rattle.file_trait.specs.DiskModel.{Past, reads, Crashes}
 use Rattle.file_trait.specs.Moments.{Moments}
 use Rattle.file_trait.specs.Touched.{Touches}
 use Rattle.disk_logs.specs.Crash.{IsSound}
 use Rattle.disk_logs.specs.Logs.{IsLog}
 use Rattle.db_model.specs.Commits.{CommitRecord}
-use Rattle.db_model.specs.Database.{records_of}
+use Rattle.db_model.specs.Lawful as databases
+use Rattle.db_state.specs.Live.{database}
 use Rattle.txn_log.specs.Logs.{Reads, TxnStands, handle, IsLogName}
-use Rattle.mn_node.specs.Durable.{Entry, commit, made, rows_of}
-use Rattle.mn_node.specs.Machine.{Machine, Event, Answer, started, Step, IsKept, HoldsClosed, Leaves, added, unstarted, running, halted, faulted, starved, ruined}
-use Rattle.mn_node.specs.Meaning.{Files, latest, Meaning, stands, broken, IsBroken}
-use Rattle.mn_node.specs.Puts.{ArePuts}
+use Rattle.mn_node.specs.Durable.{Entry, made}
+use Rattle.mn_node.specs.Effects.{Answer, started}
+use Rattle.mn_node.specs.Machine.{Machine, Event, Step, IsKept, HoldsClosed, Leaves, added, commits_of, AreDone, unstarted, running, halted, faulted, starved, ruined}
+use Rattle.mn_node.specs.Meaning.{Files, latest, Meaning, stands, broken, IsBroken, AreTaken}
 use Rattle.mn_node.specs.declared.node.Node.{Node}
 use Rattle.mn_node.specs.declared.node.State.{State}
 use Rattle.mn_node.specs.declared.node.State.TheVariants.{Unstarted, Up, Stopped, Faulted, Starved, Ruined}
 use Rattle.mn_node.specs.declared.open.Open.{Open}
 
-abbrev pub commit_in : Entry → CommitRecord
-commit_in (commit c) = c
-
-abbrev pub commits_of : List Entry → List CommitRecord
-commits_of entries = map commit_in entries
-
--- The log has these commits, of which so many are durable, and the table has the records of what they make.
+-- The log has these commits, of which so many are durable, and the live database is what they make.
 pub record OpenShows (live : Open) (past : Past) (commits : List CommitRecord) (synced : ℕ) : Type 0 where
-  pub table : (key : Tree)
-      → records_of key (map tree_of live.table.rows.items) ≡ records_of key (rows_of (made commits))
+  pub same : database live.tables ≡ (made commits).database
   pub log : TxnStands past live.log commits synced
-  pub puts : ArePuts commits
+  pub taken : AreTaken commits
+  pub sound : databases.IsSound (made commits).database
+
+-- a start took the earlier commits, and behind them each entry was lawful when it was done
+pub record IsHistory (earlier : List CommitRecord) (entries : List Entry) : Type 0 where
+  pub taken : AreTaken earlier
+  pub done : AreDone entries (made earlier)
 
 -- the machine runs, and the log has the earlier commits and those of its entries
 pub record IsUp (live : Open) (past : Past) (machine : Machine) (earlier : List CommitRecord) : Type 0 where
@@ -54,7 +52,7 @@ pub record HasKept (base : Meaning) (machine : Machine) (earlier : List CommitRe
   pub is_kept : IsKept machine kept
   pub within : machine.synced ≤ length kept
   pub has : Reads (earlier ++ commits_of kept) (files latest)
-  pub puts : ArePuts (earlier ++ commits_of kept)
+  pub history : IsHistory earlier machine.entries
 
 abbrev pub HasLog : Meaning → Past → Past → Machine → List CommitRecord → Type 0
 HasLog (stands w) first past machine earlier = HasKept (stands w) machine earlier (reads past) × IsSound past latest

@@ -3,6 +3,8 @@
 ghost use Rattle.std.specs.Prelude.{◌≡◌, ◌↔◌, ◌≤◌, ◌<◌, ◌+◌, ◌-◌, ◌^◌, ℕ, None, Some, IsTrue};
 ghost use Rattle.file_trait.specs.DiskModel.{Past};
 ghost use Rattle.mn_node.specs.Calls.{Owes};
+ghost use Rattle.mn_node.specs.Effects as effects;
+ghost use Rattle.mn_node.specs.Effects.{IsAskable};
 ghost use Rattle.mn_node.specs.Inside.Loads.{start_answer, down_node, up_node};
 ghost use Rattle.mn_node.specs.Inside.Tries.{settled_node, failed_node, failed_answer};
 ghost use Rattle.mn_node.specs.Machine.{Machine};
@@ -120,6 +122,7 @@ impl Node {
         requires whole { IsWhole self.old.state }
         requires log { IsTrue D.tells → HasLogOf self.old.state (D.past disk.old) }
         requires few { (n : ℕ) × (n < 2 ^ 62) × IsFew self.old n }
+        requires asked { IsAskable (seen.asked command) }
         ensures steps { IsTrue D.tells → (first : Past) (old : Machine) → Shows first self.old (D.past disk.old) old
             → Steps first old (machine.command (seen.asked command)) (seen.answer result) self.old self.new
             (D.past disk.old) (D.past disk.new) }
@@ -127,8 +130,8 @@ impl Node {
             (D.past disk.new) self.old self.new (seen.answer result) }
 
         // Down is answered exactly where the node is not up, and a sync takes no memory.
-        ensures down { (seen.answer result ≡ machine.is_down) ↔ (IsUpState self.old.state → ⊥) }
-        ensures sync { seen.asked command ≡ machine.sync_log → seen.answer result ≡ machine.no_memory → ⊥ }
+        ensures down { (seen.answer result ≡ effects.is_down) ↔ (IsUpState self.old.state → ⊥) }
+        ensures sync { seen.asked command ≡ effects.sync_log → seen.answer result ≡ effects.no_memory → ⊥ }
     {
         let tried = match &mut self.state {
             State::Up(live) => live.attempt(alloc, disk, command),
@@ -149,7 +152,7 @@ impl Node {
             → Steps first old machine.end (seen.answer result) self.old self.new (D.past disk.old) (D.past disk.new) }
         ensures owes { Owes D.tells (D.faults disk.old) (D.faults disk.new) (D.blamed disk.new) (D.past disk.old)
             (D.past disk.new) self.old self.new (seen.answer result) }
-        ensures down { (seen.answer result ≡ machine.is_down) ↔ (IsUpState self.old.state → ⊥) }
+        ensures down { (seen.answer result ≡ effects.is_down) ↔ (IsUpState self.old.state → ⊥) }
     {
         self.answer(alloc, disk, Command::Stop)
     }

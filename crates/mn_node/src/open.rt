@@ -1,29 +1,38 @@
-//! What a node that is up works on: the table and the log of its commits.
+//! What a node that is up works on: the live database and the log of its commits.
 
-ghost use Rattle.std.specs.Prelude.{◌≡◌, ◌<◌, ◌≤◌, ◌+◌, ◌-◌, ◌^◌, [], ℕ, List, false, IsTrue, IfOk, IsErrOf};
+ghost use Rattle.std.specs.Prelude.{◌≡◌, ◌<◌, ◌≤◌, ◌+◌, ◌-◌, ◌^◌, ◌∷◌, [], ℕ, List, map, false, None, IsTrue, IfOk, IsSomeAnd, IsErrOf, OnErr, MatchOption};
 ghost use Rattle.file_trait.specs.DiskModel.{Past};
+ghost use Rattle.term_core.specs.Tree.{atom, greatest_depth};
 ghost use Rattle.term_core.specs.View.{tree_of};
 ghost use Rattle.disk_logs.specs.Logs.{IsLog};
 ghost use Rattle.db_model.specs.Commits.{CommitRecord};
-ghost use Rattle.txn_log.specs.Logs.{handle, IsLogName};
-ghost use Rattle.db_model.specs.Database.{records_of};
-ghost use Rattle.mn_node.specs.Durable.{commit, made, rows_of};
-ghost use Rattle.mn_node.specs.Inside.Tries.{IsFileOrMemory, Tries, Attempts, IsPlain};
-ghost use Rattle.mn_node.specs.Machine.{effect, adds, finds};
-ghost use Rattle.mn_node.specs.Machine as machine;
-ghost use Rattle.mn_node.specs.Puts.{IsRow, put_of};
+ghost use Rattle.db_model.specs.Lawful.{table_in, IsLawful};
+ghost use Rattle.db_model.specs.Names.{IsTableName};
+ghost use Rattle.db_model.specs.View.{definition, commit_record};
+ghost use Rattle.db_model.specs.declared.op.Op.TheVariants.{Write};
+ghost use Rattle.db_state.specs.Live.{database, definition_of};
+ghost use Rattle.schema_txn.specs.Commands.{RefusesCreate, RefusesDelete};
+ghost use Rattle.txn_log.specs.Commits.{IsLogged, IsItemOf, op_trees};
+ghost use Rattle.txn_log.specs.Logs.{handle, latest, TxnStands, IsLogName};
+ghost use Rattle.mn_node.specs.Durable.{made};
+ghost use Rattle.mn_node.specs.Effects.{IsAskable, effect, commits as commit_effect};
+ghost use Rattle.mn_node.specs.Effects as machine;
+ghost use Rattle.mn_node.specs.Inside.Tries.{IsFileOrMemory, Tries, Appends, Attempts, IsPlain, IsRefusalOf, IsUndefined};
 ghost use Rattle.mn_node.specs.Seen as seen;
 ghost use Rattle.mn_node.specs.Shown.{OpenShows};
 
 use crate::command::Command;
-use crate::puts::{is_row, is_table, put_item};
 use crate::reply::Reply;
-use crate::table::Table;
+use crate::terms::{copies, named, size_option};
+use db_model::{Commit, DefErr, Op, Ops, SchemaOps, TableDef, create_list, fits, is_table_name};
+use db_state::Live;
 use disk_logs::LogErr;
 use file_trait::{Disk, FileName};
+use schema_txn::{SchemaErr, create_table, delete_table};
+use sqlite_items::Items;
 use std::alloc::{AllocError, Global};
 use term_core::{Atom, Term};
-use txn_log::TxnLog;
+use txn_log::{CommitItem, TxnLog, encode_commit};
 
 /// What a command did.
 #[derive(Drop)]
@@ -56,11 +65,11 @@ impl From<AllocError> for Trouble {
     }
 }
 
-/// The table, and the log that its commits go to.
+/// The live database, and the log that its commits go to.
 #[derive(Drop)]
 pub struct Open {
     pub log: TxnLog,
-    pub table: Table,
+    pub tables: Live,
 }
 
 /// Only a reply.
@@ -90,6 +99,99 @@ fn why(error: LogErr, doubt: bool) -> Trouble
     }
 }
 
+/// Appends a commit, and makes it durable where it settles. Where a sync fails the commit is in doubt.
+fn append<D: Disk>(
+    log: &mut TxnLog,
+    disk: &mut D,
+    item: &CommitItem,
+    settles: bool,
+) -> Result<Done, Trouble>
+    requires log { IsTrue D.tells → IsLog (D.past disk.old) (handle log.old) }
+    requires few { log.old.commits < 2 ^ 64 - 1 }
+    ensures appends { IsTrue D.tells → (commits : List CommitRecord) (synced : ℕ) (commit : CommitRecord)
+        → IsItemOf commit item.now → TxnStands (D.past disk.old) log.old commits synced
+        → Appends settles commit commits synced result log.new (D.past disk.old) (D.past disk.new) }
+    ensures owes { Attempts D.Disk disk.old disk.new log.old log.new result }
+{
+    if let Err(error) = log.append(disk, item) {
+        return Err(why(error, true));
+    }
+    if settles {
+        if let Err(error) = log.sync(disk) {
+            return Err(why(error, true));
+        }
+    }
+    Ok(Done {
+        reply: Reply::Done,
+        wrote: true,
+        settles,
+        halts: false,
+    })
+}
+
+/// The commit that writes this record, and does nothing else.
+fn write_commit(alloc: Global, version: u64, table: Atom, row: Term) -> Result<Commit, AllocError>
+    ensures { IfOk result (λ commit.
+        commit ≡ record { version = version; schema_ops = []; ops = Write table row ∷ [] }) }
+{
+    let mut ops = Ops::new(alloc);
+    ops.push(Op::Write(table, row))?;
+    Ok(Commit {
+        version,
+        schema_ops: SchemaOps::new(alloc),
+        ops,
+    })
+}
+
+/// What is answered where the options define no table of this name.
+fn undefined(error: DefErr, name: Atom) -> Result<Done, Trouble>
+    ensures { IsUndefined error name result }
+{
+    match error {
+        DefErr::BadName => Ok(told(Reply::BadName(name))),
+        DefErr::BadOption(place) => Ok(told(Reply::BadOption(place))),
+        DefErr::Memory => Err(Trouble::Memory),
+    }
+}
+
+/// What is answered where a command on a whole table was refused.
+fn refused(error: SchemaErr, name: Atom) -> Result<Done, Trouble>
+    ensures { IsRefusalOf error name result }
+{
+    match error {
+        SchemaErr::Exists(_) => Ok(told(Reply::Exists(name))),
+        SchemaErr::NoTable => Ok(told(Reply::NoTable(name))),
+        SchemaErr::TooManyTables => Ok(told(Reply::TooManyTables)),
+        SchemaErr::TooManyVersions => Ok(told(Reply::TooManyVersions)),
+        SchemaErr::Memory => Err(Trouble::Memory),
+    }
+}
+
+/// The names of these definitions.
+fn names_of(alloc: Global, defs: &[TableDef]) -> Result<Items<Term>, AllocError>
+    ensures some { OnErr result (defs.now ≡ [] → ⊥) }
+    ensures names { IfOk result (λ names. map tree_of names ≡ map (λ def. atom def.name) defs.now) }
+{
+    let mut names = Items::new(alloc);
+    for def in defs {
+        names.push(named(alloc, &def.name)?)?;
+    }
+    Ok(names)
+}
+
+/// All options of this definition, and `{size,Count}`.
+fn info_of(alloc: Global, def: &TableDef, count: u64) -> Result<Items<Term>, AllocError>
+    ensures { IfOk result (λ terms. map tree_of terms ≡ machine.options_of (definition def.now) count) }
+{
+    match create_list(alloc, def)? {
+        Term::List(mut terms) => {
+            terms.push(size_option(alloc, count)?)?;
+            Ok(terms)
+        }
+        Term::Int(_) | Term::Atom(_) | Term::Tuple(_) | Term::Bin(_) => unreachable!(),
+    }
+}
+
 impl Open {
     /// Does one command: one arm each.
     pub fn attempt<D: Disk>(
@@ -100,23 +202,28 @@ impl Open {
     ) -> Result<Done, Trouble>
         requires log { IsTrue D.tells → IsLog (D.past disk.old) (handle self.old.log) }
         requires few { self.old.log.commits < 2 ^ 64 - 1 }
+        requires asked { IsAskable (seen.asked command) }
         ensures tries { IsTrue D.tells → (commits : List CommitRecord) (synced : ℕ)
             → OpenShows self.old (D.past disk.old) commits synced
             → Tries (effect (made commits) (seen.asked command)) commits synced result self.new
             (D.past disk.old) (D.past disk.new) }
-        ensures owes { Attempts D.Disk disk.old disk.new self.old self.new result }
+        ensures owes { Attempts D.Disk disk.old disk.new self.old.log self.new.log result }
         ensures sync { seen.asked command ≡ machine.sync_log → IsErrOf result Trouble.Memory → ⊥ }
     {
         match command {
-            Command::Put(table, row) => self.write(alloc, disk, table, row),
-            Command::Get(table, key) => self.read(alloc, table, &key),
+            Command::Put(table, row) => self.put(alloc, disk, table, row),
+            Command::Get(table, key) => self.get(alloc, table, &key),
+            Command::CreateTable(name, read) => self.create(alloc, disk, name, read),
+            Command::DeleteTable(name) => self.delete(alloc, disk, name),
+            Command::Tables => self.names(alloc),
+            Command::TableInfo(name) => self.info(alloc, name),
             Command::SyncLog => self.settle(disk),
             Command::Stop => self.close(disk),
         }
     }
 
-    /// Puts a record into a table that is there and can have it.
-    fn write<D: Disk>(
+    /// Puts a record into a table that stands and can have it.
+    fn put<D: Disk>(
         &mut self,
         alloc: Global,
         disk: &mut D,
@@ -129,74 +236,155 @@ impl Open {
             → OpenShows self.old (D.past disk.old) commits synced
             → Tries (effect (made commits) (machine.put table (tree_of row))) commits synced result self.new
             (D.past disk.old) (D.past disk.new) }
-        ensures owes { Attempts D.Disk disk.old disk.new self.old self.new result }
+        ensures owes { Attempts D.Disk disk.old disk.new self.old.log self.new.log result }
     {
-        if !is_table(&table) {
+        let Some(def) = self.standing(&table) else {
             return Ok(told(Reply::NoTable(table)));
-        }
-        if !is_row(&row) {
+        };
+        if !fits(def, &row) {
             return Ok(told(Reply::BadRecord(row)));
         }
-        self.put(alloc, disk, row)
+        let commit = write_commit(alloc, self.tables.schema().version, table, row)?;
+        self.commit(alloc, disk, &commit, false)
     }
 
-    /// Takes the memory of the record's place in the table, then appends its commit, and then puts it there, which
-    /// cannot fail.
-    fn put<D: Disk>(&mut self, alloc: Global, disk: &mut D, row: Term) -> Result<Done, Trouble>
+    /// Makes a table, whose options were read.
+    fn create<D: Disk>(
+        &mut self,
+        alloc: Global,
+        disk: &mut D,
+        name: Atom,
+        read: Result<TableDef, DefErr>,
+    ) -> Result<Done, Trouble>
         requires log { IsTrue D.tells → IsLog (D.past disk.old) (handle self.old.log) }
         requires few { self.old.log.commits < 2 ^ 64 - 1 }
-        requires row { IsRow (tree_of row) }
+        requires asked { IsAskable (machine.create_table name (seen.read_as read)) }
         ensures tries { IsTrue D.tells → (commits : List CommitRecord) (synced : ℕ)
             → OpenShows self.old (D.past disk.old) commits synced
-            → Tries (adds (commit (put_of (tree_of row)))) commits synced result self.new
+            → Tries (effect (made commits) (machine.create_table name (seen.read_as read))) commits synced result
+            self.new (D.past disk.old) (D.past disk.new) }
+        ensures owes { Attempts D.Disk disk.old disk.new self.old.log self.new.log result }
+    {
+        let def = match read {
+            Ok(def) => def,
+            Err(error) => return undefined(error, name),
+        };
+        match create_table(alloc, &self.tables, &def) {
+            Ok(commit) => self.commit(alloc, disk, &commit, true),
+            Err(error) => refused(error, name),
+        }
+    }
+
+    /// Takes a table that stands away.
+    fn delete<D: Disk>(&mut self, alloc: Global, disk: &mut D, name: Atom) -> Result<Done, Trouble>
+        requires log { IsTrue D.tells → IsLog (D.past disk.old) (handle self.old.log) }
+        requires few { self.old.log.commits < 2 ^ 64 - 1 }
+        ensures tries { IsTrue D.tells → (commits : List CommitRecord) (synced : ℕ)
+            → OpenShows self.old (D.past disk.old) commits synced
+            → Tries (effect (made commits) (machine.delete_table name)) commits synced result self.new
             (D.past disk.old) (D.past disk.new) }
-        ensures owes { Attempts D.Disk disk.old disk.new self.old self.new result }
-
-        // It is one call of the disk at most, and three where the log is closed: the first put marks it open.
-        ensures calls_few { D.moment disk.new ≤ D.moment disk.old + 3 }
-        ensures one { self.old.log.closed ≡ false → D.moment disk.new ≤ D.moment disk.old + 1 }
+        ensures owes { Attempts D.Disk disk.old disk.new self.old.log self.new.log result }
     {
-        let made = put_item(alloc, row)?;
-        self.table.reserve()?;
-        match self.log.append(disk, &made.0) {
-            Ok(()) => {
-                self.table.put(made.1);
-                Ok(Done {
-                    reply: Reply::Done,
-                    wrote: true,
-                    settles: false,
-                    halts: false,
-                })
+        let Some(_) = self.standing(&name) else {
+            return Ok(told(Reply::NoTable(name)));
+        };
+        match delete_table(alloc, &self.tables, &name) {
+            Ok(commit) => self.commit(alloc, disk, &commit, true),
+            Err(error) => refused(error, name),
+        }
+    }
+
+    /// The definition of the table of this name, where it stands. Only what a table can be called may be one's name,
+    /// and a log takes no other.
+    fn standing(&self, name: &Atom) -> Option<&TableDef>
+        ensures { MatchOption result
+            (IsTableName name.now → table_in name.now (database self.now.tables).tables ≡ None)
+            (λ def. IsTableName name.now × IsSomeAnd (table_in name.now (database self.now.tables).tables)
+            (λ table. definition def.now ≡ definition_of table)) }
+    {
+        if !is_table_name(name) {
+            return None;
+        }
+        self.tables.def(name)
+    }
+
+    /// Takes the memory that the commit needs in the tables, then appends it, makes it durable where it settles, and
+    /// then does it, which cannot fail.
+    fn commit<D: Disk>(
+        &mut self,
+        alloc: Global,
+        disk: &mut D,
+        commit: &Commit,
+        settles: bool,
+    ) -> Result<Done, Trouble>
+        requires log { IsTrue D.tells → IsLog (D.past disk.old) (handle self.old.log) }
+        requires few { self.old.log.commits < 2 ^ 64 - 1 }
+        requires lawful { IsLawful (commit_record commit.now) (database self.old.tables) }
+        requires logged { IsLogged (commit_record commit.now) }
+        requires levels { greatest_depth (op_trees (commit_record commit.now).operations) ≤ 126 }
+        ensures tries { IsTrue D.tells → (commits : List CommitRecord) (synced : ℕ)
+            → OpenShows self.old (D.past disk.old) commits synced
+            → Tries (commit_effect settles (commit_record commit.now)) commits synced result self.new
+            (D.past disk.old) (D.past disk.new) }
+        ensures owes { Attempts D.Disk disk.old disk.new self.old.log self.new.log result }
+    {
+        let item = match encode_commit(alloc, commit) {
+            Ok(item) => item,
+            Err(LogErr::TooLong) => return Ok(told(Reply::TooLong)),
+            Err(_) => return Err(Trouble::Memory),
+        };
+        let plan = self.tables.plan(alloc, commit)?;
+        match append(&mut self.log, disk, &item, settles) {
+            Ok(done) => {
+                self.tables.apply(plan);
+                Ok(done)
             }
-            Err(error) => Err(why(error, true)),
+            Err(trouble) => Err(trouble),
         }
     }
 
-    /// Copies of the records with this key, of a table that is there.
-    fn read(&self, alloc: Global, table: Atom, key: &Term) -> Result<Done, Trouble>
+    /// Copies of the records with this key, of a table that stands.
+    fn get(&self, alloc: Global, table: Atom, key: &Term) -> Result<Done, Trouble>
         ensures tries { (past : Past) (commits : List CommitRecord) (synced : ℕ)
             → OpenShows self.now past commits synced
-            → Tries (effect (made commits) (machine.get table (tree_of key.now))) commits synced result self.now past
-            past }
+            → Tries (effect (made commits) (machine.get table (tree_of key.now))) commits synced result self.now
+            past past }
         ensures none { (name : List ℕ) (doubt : _) → IsErrOf result (Trouble.File name doubt) → ⊥ }
         ensures plain { IfOk result (λ done. IsPlain (seen.answer done.reply)) }
     {
-        if !is_table(&table) {
-            return Ok(told(Reply::NoTable(table)));
+        match self.tables.table(&table) {
+            Some(records) => Ok(told(Reply::Found(copies(alloc, records.read(key))?))),
+            None => Ok(told(Reply::NoTable(table))),
         }
-        self.get(alloc, key)
     }
 
-    /// Copies of the records with this key.
-    fn get(&self, alloc: Global, key: &Term) -> Result<Done, Trouble>
+    /// The names of the tables, in their order.
+    fn names(&self, alloc: Global) -> Result<Done, Trouble>
         ensures tries { (past : Past) (commits : List CommitRecord) (synced : ℕ)
             → OpenShows self.now past commits synced
-            → Tries (finds (records_of (tree_of key.now) (rows_of (made commits)))) commits synced result self.now past
-            past }
+            → Tries (effect (made commits) (machine.tables)) commits synced result self.now past past }
         ensures none { (name : List ℕ) (doubt : _) → IsErrOf result (Trouble.File name doubt) → ⊥ }
         ensures plain { IfOk result (λ done. IsPlain (seen.answer done.reply)) }
     {
-        Ok(told(Reply::Found(self.table.read(alloc, key)?)))
+        let defs = self.tables.schema().tables.as_slice();
+        Ok(told(Reply::Found(names_of(alloc, defs)?)))
+    }
+
+    /// All options of a table that stands, and how many records it has.
+    fn info(&self, alloc: Global, name: Atom) -> Result<Done, Trouble>
+        ensures tries { (past : Past) (commits : List CommitRecord) (synced : ℕ)
+            → OpenShows self.now past commits synced
+            → Tries (effect (made commits) (machine.table_info name)) commits synced result self.now past past }
+        ensures none { (name : List ℕ) (doubt : _) → IsErrOf result (Trouble.File name doubt) → ⊥ }
+        ensures plain { IfOk result (λ done. IsPlain (seen.answer done.reply)) }
+    {
+        match (self.tables.def(&name), self.tables.table(&name)) {
+            (Some(def), Some(table)) => {
+                let terms = info_of(alloc, def, table.count() as u64)?;
+                Ok(told(Reply::Found(terms)))
+            }
+            _ => Ok(told(Reply::NoTable(name))),
+        }
     }
 
     /// Makes all commits durable.
@@ -206,7 +394,7 @@ impl Open {
             → OpenShows self.old (D.past disk.old) commits synced
             → Tries (effect (made commits) machine.sync_log) commits synced result self.new
             (D.past disk.old) (D.past disk.new) }
-        ensures owes { Attempts D.Disk disk.old disk.new self.old self.new result }
+        ensures owes { Attempts D.Disk disk.old disk.new self.old.log self.new.log result }
         ensures same { self.new.log.commits ≡ self.old.log.commits }
         ensures never { IsErrOf result Trouble.Memory → ⊥ }
         ensures one { D.moment disk.new ≤ D.moment disk.old + 1 }
@@ -229,7 +417,7 @@ impl Open {
             → OpenShows self.old (D.past disk.old) commits synced
             → Tries (effect (made commits) machine.stop) commits synced result self.new
             (D.past disk.old) (D.past disk.new) }
-        ensures owes { Attempts D.Disk disk.old disk.new self.old self.new result }
+        ensures owes { Attempts D.Disk disk.old disk.new self.old.log self.new.log result }
         ensures same { self.new.log.commits ≡ self.old.log.commits }
         ensures calls_few { D.moment disk.new ≤ D.moment disk.old + 3 }
     {

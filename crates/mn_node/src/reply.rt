@@ -8,9 +8,9 @@ use term_core::{Atom, Term};
 pub enum Reply {
     /// The node is up. Of the commits since the last good start so many were kept: none at the first start.
     Started(u64),
-    /// The write is done.
+    /// The commit is done.
     Done,
-    /// The records of a key.
+    /// The records of a key, the names of the tables, or what is told of one.
     Found(Items<Term>),
     /// All commits are durable.
     Synced,
@@ -18,15 +18,27 @@ pub enum Reply {
     Stopped,
     /// There is no table of this name.
     NoTable(Atom),
+    /// There is a table of this name.
+    Exists(Atom),
     /// The table can have no such record.
     BadRecord(Term),
+    /// No table can be called so.
+    BadName(Atom),
+    /// The option at this place is ill, from 1, or there is no list of options, at 0.
+    BadOption(u64),
+    /// There are as many tables as there may be.
+    TooManyTables,
+    /// There is no version behind that of the database.
+    TooManyVersions,
+    /// The commit's text is longer than one may be.
+    TooLong,
     /// The line is no command, from this byte on.
     Badarg(u64),
     /// The node is down, and the command is no start.
     Down,
     /// The node is up, and the command is a start.
     Up,
-    /// Memory was wanting, and nothing changed.
+    /// Memory ran out, and nothing changed.
     Memory,
     /// The disk failed at this file, and the node is down.
     Fault(FileName),

@@ -1,30 +1,30 @@
-//! The start: a node over a new log, or with the table that the log's commits make.
+//! The start: a node over a new log, or with the database that the log's commits make.
 
-ghost use Rattle.std.specs.Prelude.{◌≡◌, ◌↔◌, ◌<◌, ◌+◌, ℕ, List, ◌^◌, Some, true, length, take, IsTrue, IsErrOf, OnOk, OnErr, IfOk, MatchOption, MatchResult, map};
+ghost use Rattle.std.specs.Prelude.{◌≡◌, ◌↔◌, ◌<◌, ◌+◌, ℕ, List, ◌^◌, Some, true, length, take, IsTrue, IsErrOf, OnOk, OnErr, IfOk, MatchResult};
+ghost use Rattle.std.specs.Bool.{MatchBool};
 ghost use Rattle.file_trait.specs.DiskModel.{reads, IsImage, IsSettled, Crashes};
 ghost use Rattle.file_trait.specs.Moments.{Moments};
 ghost use Rattle.file_trait.specs.Touched.{Touches};
-ghost use Rattle.term_core.specs.View.{tree_of};
 ghost use Rattle.disk_logs.specs.Crash.{IsSound};
 ghost use Rattle.disk_logs.specs.Logs.{IsLog, IsRead};
 ghost use Rattle.log_items.specs.Items.{wire, log_bytes, AreContents};
 ghost use Rattle.db_model.specs.Commits.{CommitRecord};
+ghost use Rattle.db_model.specs.Lawful as databases;
+ghost use Rattle.db_state.specs.Live.{database};
 ghost use Rattle.txn_log.specs.Logs.{handle, IsLogName, IsAsRead, HasOnlyCommits, IsWrongAt, OldOrCommits, Reads};
 ghost use Rattle.mn_node.specs.Calls.{Calls};
-ghost use Rattle.mn_node.specs.Inside.Loads.{Loads, MakesTable, HasPutAt, HasOtherAt, FailsBroken};
+ghost use Rattle.mn_node.specs.Durable.{made};
+ghost use Rattle.mn_node.specs.Inside.Loads.{Loads, Makes, TakesAt, CannotTakeAt, FailsBroken};
 ghost use Rattle.mn_node.specs.Inside.Tries.{IsFileOrMemory};
-ghost use Rattle.mn_node.specs.Meaning.{Files, IsBroken, latest};
-ghost use Rattle.mn_node.specs.Puts.{ArePuts};
+ghost use Rattle.mn_node.specs.Meaning.{Files, IsBroken, latest, AreTaken};
 ghost use Rattle.mn_node.specs.Shown.{OpenShows, StaysSound};
 ghost use Rattle.mn_node.specs.declared.starting.StartErr.TheVariants.{Memory};
 
 use crate::open::Open;
-use crate::puts::row_in;
-use crate::table::Table;
+use db_state::Live;
 use disk_logs::LogErr;
 use file_trait::{Disk, FileName};
 use std::alloc::{AllocError, Global};
-use term_core::Term;
 use txn_log::{CommitFile, TxnLog, latest as latest_name};
 
 /// Why a start did not bring the node up.
@@ -51,15 +51,16 @@ impl From<AllocError> for StartErr {
 /// mark says open is renewed, and where there is none a new one is published.
 pub fn start<D: Disk>(alloc: Global, disk: &mut D) -> Result<Open, StartErr>
     ensures started { IsTrue D.tells → IsSound (D.past disk.old) latest → (commits : List CommitRecord)
-        → Reads commits (reads (D.past disk.old) latest) → ArePuts commits
+        → Reads commits (reads (D.past disk.old) latest) → AreTaken commits
+        → databases.IsSound (made commits).database
         → IfOk result (λ live. OpenShows live (D.past disk.new) commits (length commits)) }
     ensures failed { IsTrue D.tells → (commits : List CommitRecord)
-        → Reads commits (reads (D.past disk.old) latest) → ArePuts commits
+        → Reads commits (reads (D.past disk.old) latest) → AreTaken commits
         → OnErr result (Reads commits (reads (D.past disk.new) latest)) }
 
     // At each moment a crash leaves what it could leave before, or exactly these commits.
     ensures any_moment { IsTrue D.tells → (commits : List CommitRecord)
-        → Reads commits (reads (D.past disk.old) latest) → ArePuts commits
+        → Reads commits (reads (D.past disk.old) latest) → AreTaken commits
         → Moments (OldOrCommits (D.past disk.old) commits) (D.past disk.old) (D.past disk.new) }
 
     // A closed log stays as trusted as it was. Over one nothing is written.
@@ -84,10 +85,10 @@ pub fn start<D: Disk>(alloc: Global, disk: &mut D) -> Result<Open, StartErr>
     ensures named { (name : List ℕ) → IsErrOf result (StartErr.File name) → IsLogName name }
 {
     let read = found(alloc, disk)?;
-    let table = loaded(alloc, &read)?;
+    let tables = loaded(alloc, &read)?;
     synced_directory(disk)?;
     match TxnLog::open(alloc, disk, &read) {
-        Ok(log) => Ok(Open { log, table }),
+        Ok(log) => Ok(Open { log, tables }),
         Err(error) => Err(open_error(error)),
     }
 }
@@ -108,18 +109,18 @@ fn found<D: Disk>(alloc: Global, disk: &mut D) -> Result<Option<CommitFile>, Sta
     }
 }
 
-/// The table that the log's commits make, and an empty one where there is no log.
-fn loaded(alloc: Global, read: &Option<CommitFile>) -> Result<Table, StartErr>
+/// The database that the log's commits make, and one without tables where there is no log.
+fn loaded(alloc: Global, read: &Option<CommitFile>) -> Result<Live, StartErr>
     ensures loads { (files : Files) → IsAsRead read.now (files latest)
-        → IfOk result (λ table. Loads files (map tree_of table.rows.items)) }
+        → IfOk result (λ live. Loads files (database live)) }
     ensures commits { OnOk result (HasOnlyCommits read.now) }
     ensures damaged { (files : Files) → IsAsRead read.now (files latest)
         → (name : List ℕ) (at : ℕ) → IsErrOf result (StartErr.Damaged name at) → IsBroken files name at }
     ensures fault { (name : List ℕ) → IsErrOf result (StartErr.File name) → ⊥ }
 {
     match read {
-        Some(file) => table_of(alloc, file),
-        None => Ok(Table::new(alloc)),
+        Some(file) => database_of(alloc, file),
+        None => Ok(Live::new(alloc)),
     }
 }
 
@@ -144,54 +145,47 @@ fn synced_directory<D: Disk>(disk: &mut D) -> Result<(), StartErr>
     }
 }
 
-/// The table that the commits of a log make.
-fn table_of(alloc: Global, file: &CommitFile) -> Result<Table, StartErr>
+/// The database that the commits of a log make.
+fn database_of(alloc: Global, file: &CommitFile) -> Result<Live, StartErr>
     ensures whole { IsRead file.now }
-    ensures made { IfOk result (λ table. MakesTable file.now.items (map tree_of table.rows.items)) }
+    ensures made { IfOk result (λ live. Makes file.now.items (database live)) }
     ensures damaged { (name : List ℕ) (at : ℕ) → IsErrOf result (StartErr.Damaged name at)
-        → (name ≡ latest) × IsWrongAt ArePuts file.now.items at }
+        → (name ≡ latest) × IsWrongAt AreTaken file.now.items at }
     ensures fault { (name : List ℕ) → IsErrOf result (StartErr.File name) → ⊥ }
 {
-    let mut table = Table::new(alloc);
+    let mut live = Live::new(alloc);
     let count = file.len();
     let mut number = 0;
     'commits: while number < count {
-        match row_at(alloc, file, number) {
-            Ok(row) => {
-                table.reserve()?;
-                table.put(row);
-            }
-            Err(error) => return Err(error),
+        if !take(alloc, &mut live, file, number)? {
+            return Err(StartErr::Damaged(latest_name(), file.place(number)));
         }
         number += 1;
     }
-    Ok(table)
+    Ok(live)
 }
 
-/// The record that this commit puts.
-fn row_at(alloc: Global, file: &CommitFile, number: usize) -> Result<Term, StartErr>
+/// Takes this commit of a log. Whether it is one that can be taken.
+fn take(
+    alloc: Global,
+    live: &mut Live,
+    file: &CommitFile,
+    number: usize,
+) -> Result<bool, AllocError>
     requires { number + 1 < length file.now.items }
-    ensures row { IfOk result (λ row. HasPutAt file.now.items (number + 1) (tree_of row)) }
-    ensures damaged { (name : List ℕ) (at : ℕ) → IsErrOf result (StartErr.Damaged name at)
-        → (name ≡ latest) × (at ≡ 8 + length (wire (take (number + 1) file.now.items)))
-        × HasOtherAt file.now.items (number + 1) }
-    ensures fault { (name : List ℕ) → IsErrOf result (StartErr.File name) → ⊥ }
+    ensures { IfOk result (λ taken. MatchBool taken
+        (TakesAt file.now.items (number + 1) (database live.old) (database live.new))
+        (CannotTakeAt file.now.items (number + 1) (database live.old))) }
 {
-    match put_at(alloc, file, number)? {
-        Some(row) => Ok(row),
-        None => Err(StartErr::Damaged(latest_name(), file.place(number))),
-    }
-}
-
-/// The record that this commit puts, where it does nothing else.
-fn put_at(alloc: Global, file: &CommitFile, number: usize) -> Result<Option<Term>, AllocError>
-    requires { number + 1 < length file.now.items }
-    ensures { IfOk result (λ found. MatchOption found (HasOtherAt file.now.items (number + 1))
-        (λ row. HasPutAt file.now.items (number + 1) (tree_of row))) }
-{
-    match file.commit(alloc, number)? {
-        Some(commit) => row_in(alloc, &commit),
-        None => Ok(None),
+    let Some(commit) = file.commit(alloc, number)? else {
+        return Ok(false);
+    };
+    match live.plan_taken(alloc, &commit)? {
+        Some(plan) => {
+            live.apply(plan);
+            Ok(true)
+        }
+        None => Ok(false),
     }
 }
 

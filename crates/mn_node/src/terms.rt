@@ -1,9 +1,11 @@
 //! Terms that are made.
 
-ghost use Rattle.std.specs.Prelude.{◌≡◌, IfOk};
+ghost use Rattle.std.specs.Prelude.{◌≡◌, ℕ, pos, codes, map, [], IfOk, OnErr};
 ghost use Rattle.term_core.specs.Tree as trees;
 ghost use Rattle.term_core.specs.View.{tree_of};
+ghost use Rattle.db_model.specs.Options.{option_shape};
 
+use sqlite_items::Items;
 use std::alloc::{AllocError, Global};
 use term_core::{Atom, Term};
 
@@ -17,8 +19,40 @@ pub fn atom(alloc: Global, text: &str) -> Result<Term, AllocError>
     }
 }
 
+/// The atom of a name.
+pub fn named(alloc: Global, name: &Atom) -> Result<Term, AllocError>
+    ensures { IfOk result (λ term. tree_of term ≡ trees.atom name.now) }
+{
+    match name.try_clone(alloc) {
+        Ok(copy) => Ok(Term::Atom(copy)),
+        Err(_) => Err(AllocError),
+    }
+}
+
+/// `{size,Count}`
+pub fn size_option(alloc: Global, count: u64) -> Result<Term, AllocError>
+    ensures { IfOk result (λ term. tree_of term ≡ option_shape (codes "size") (trees.int (pos count))) }
+{
+    let mut parts = Items::new(alloc);
+    parts.push(atom(alloc, "size")?)?;
+    parts.push(Term::Int(count as i128))?;
+    Ok(Term::Tuple(parts))
+}
+
+/// Copies of these terms. Where there are none it takes no memory.
+pub fn copies(alloc: Global, terms: &[Term]) -> Result<Items<Term>, AllocError>
+    ensures some { OnErr result (map tree_of terms.now ≡ [] → ⊥) }
+    ensures found { IfOk result (λ copies. map tree_of copies ≡ map tree_of terms.now) }
+{
+    let mut copies = Items::new(alloc);
+    for term in terms {
+        copies.push(copied(alloc, term)?)?;
+    }
+    Ok(copies)
+}
+
 /// A term that equals this one.
-pub fn copied(alloc: Global, term: &Term) -> Result<Term, AllocError>
+fn copied(alloc: Global, term: &Term) -> Result<Term, AllocError>
     ensures { IfOk result (λ copy. copy ≡ term.now) }
 {
     term.try_clone(alloc).map_err(|_| AllocError)

@@ -1,6 +1,8 @@
 pub mod Ends
 pub mod Parts
 pub mod Passing
+pub mod Refusals
+pub mod Requests
 pub mod RunActs
 pub mod RunBroken
 pub mod RunCrash

@@ -1,15 +1,14 @@
 -- One act more in a run.
-use Rattle.std.proofs.Common.{◌≡◌, ℕ, ◌+◌, ◌≤◌, List, [], ◌∷◌, ◌++◌, length, refl, sym, ap, ◌∙◌, subst, append_assoc, append-nil, arith}
+use Rattle.std.proofs.Common.{◌≡◌, ℕ, ◌+◌, ◌≤◌, List, [], ◌∷◌, ◌++◌, length, refl, sym, ap, ◌∙◌, append_assoc, append-nil, arith}
 use Rattle.std.proofs.lemmas.List.{flat_map_more, map-append}
 use Rattle.file_trait.specs.Counts.{Rose}
-use Rattle.file_trait.specs.DiskModel.{Past, reads}
-use Rattle.mn_node.specs.Durable.{Durable, after}
-use Rattle.mn_node.specs.Shown.{HasLog, Shows, Steps}
-use Rattle.mn_node.specs.Machine.{Event, Answer, is_down, fault, damaged, Machine, durable_of, HoldsAs, Holds}
+use Rattle.file_trait.specs.DiskModel.{Past}
+use Rattle.mn_node.specs.Shown.{Steps}
+use Rattle.mn_node.specs.Effects.{Answer, is_down, fault, damaged}
+use Rattle.mn_node.specs.Machine.{Event, Machine}
 use Rattle.mn_node.specs.Machine as machine
-use Rattle.mn_node.specs.Meaning.{Meaning, stands, broken, Stands}
 use Rattle.mn_node.specs.declared.node.Node.{Node}
-use Rattle.mn_node.proofs.NodeFacts.{shows_holds}
+use Rattle.mn_node.proofs.NodeFacts.{shows_holds, shows_lawful}
 use Rattle.mn_run.specs.Replies.{text_of}
 use Rattle.mn_run.specs.Runs.{World, Act, Follows, IsRun, last_of, events_of, line_of, lines_of_acts, last_line, OfLast, IfLast, WantsAt, commands_of, mark_if, mark_at, marks_from, marks_of}
 use Rattle.mn_run.specs.Seen.{event}
@@ -33,6 +32,7 @@ follows first machine before faults event answer old_node node now faults_now s 
   during = s.during;
   behind = s.shows.leaves;
   held = shows_holds first now node s.new s.shows;
+  lawful = shows_lawful first now node s.new s.shows;
   sound = s.sound;
   touches = s.touches;
   later = later;

@@ -1,11 +1,11 @@
 -- How a run ends over a directory without a meaning, and where nothing was wrong.
 use Rattle.std.proofs.Common.{◌≡◌, ◌⊎◌, ℕ, Bool, IsTrue, List, [], ◌∷◌, refl, sym, ap, ◌∙◌, subst, inl, inr}
-use Rattle.disk_logs.specs.Crash.{IsSound}
 use Rattle.file_trait.specs.DiskModel.{Past, reads}
 use Rattle.mn_node.specs.Durable.{Durable}
-use Rattle.mn_node.specs.Machine.{Machine, Event, Answer, Life, running, halted, Choice, as_asked, out_of_memory, failed, Change, Does, Boots, ComesUp}
+use Rattle.mn_node.specs.Effects.{Command, stop, Answer}
+use Rattle.mn_node.specs.Machine.{Machine, Event, Life, running, halted, Choice, as_asked, out_of_memory, failed, Change, Does, Boots, ComesUp}
 use Rattle.mn_node.specs.Machine as machines
-use Rattle.mn_node.specs.Meaning.{latest, Meaning, Means, stands, broken, Stands, IsBroken}
+use Rattle.mn_node.specs.Meaning.{Meaning, Means, stands, broken, Stands, IsBroken}
 use Rattle.mn_node.proofs.MachineLaws.{same_base, broken_stays}
 use Rattle.mn_run.specs.Runs.{World, Act, IsRun, last_of, Ran, IsTrusted, EndsDamaged, unbegun, expected}
 use Rattle.mn_run.specs.Script.{plan_of}
@@ -54,7 +54,7 @@ IsNeverUp running = ⊥
 IsNeverUp halted = ⊥
 IsNeverUp other = Unit {0}
 
-never_does : (c : machines.Command) (old : Machine) (answer : Answer) (new : Machine) → Does c old answer new → IsNeverUp old.life
+never_does : (c : Command) (old : Machine) (answer : Answer) (new : Machine) → Does c old answer new → IsNeverUp old.life
     → IsNeverUp new.life
 never_does c old answer new (inl (up, choice, may, comes)) h = absurd (subst IsNeverUp up h)
 never_does c old answer new (inr (down, (told, is))) h = subst (λ (m : Machine). IsNeverUp m.life) (sym is) h
@@ -74,7 +74,7 @@ never_on old machines.start answer new name at base (inr (down, choice, comes)) 
 never_on old (machines.command c) answer new name at base does h = never_does c old answer new does h
 never_on old (machines.refused place) answer new name at base (told, is) h = subst (λ (m : Machine). IsNeverUp m.life) (sym is) h
 never_on old machines.turn answer new name at base (told, is) h = subst (λ (m : Machine). IsNeverUp m.life) (sym is) h
-never_on old machines.end answer new name at base does h = never_does machines.stop old answer new does h
+never_on old machines.end answer new name at base does h = never_does stop old answer new does h
 
 broken_run : (first : Past) (old : World) (acts : List Act) (name : List ℕ) (at : ℕ) → IsRun first old acts
     → old.machine.base ≡ broken name at → IsNeverUp old.machine.life
@@ -106,15 +106,10 @@ module _ (script_told sink_told : Bool) (script : List ℕ) (first : Past) (faul
     at_end : (meaning : Meaning) (how : Status) → end ≡ how → Means (reads first) meaning → IsTrusted meaning first → RanAs meaning how
     at_end meaning how is means trusted = subst (λ (e : Status). RanAs meaning e) is (ran meaning means trusted)
 
-    pub run_damaged : ((w : Durable) × Stands (reads first) w) ⊎ ((name : List ℕ) × (at : ℕ) × IsBroken (reads first) name at)
-        → IsSound first latest
-        → (name : List ℕ) (at : ℕ) → end ≡ status.Damaged name at → IsBroken (reads first) name at
-    run_damaged (inl (w, means)) sound name at is =
-        let never : stands w ≡ broken name at = damage_of (stands w) name at (at_end (stands w) (status.Damaged name at) is means sound) in
-        absurd (subst IsStanding never tt)
-    run_damaged (inr (file, place, means)) sound name at is =
-        subst (Means (reads first)) (damage_of (broken file place) name at
-        (at_end (broken file place) (status.Damaged name at) is means tt)) means
+    pub run_damaged : (meaning : Meaning) → Means (reads first) meaning → IsTrusted meaning first → (name : List ℕ) (at : ℕ)
+        → end ≡ status.Damaged name at → IsBroken (reads first) name at
+    run_damaged meaning means trusted name at is =
+        subst (Means (reads first)) (damage_of meaning name at (at_end meaning (status.Damaged name at) is means trusted)) means
 
     pub run_meaning : (name : List ℕ) (at : ℕ) → IsBroken (reads first) name at → EndsDamaged name at end
     run_meaning name at means = by end (ran (broken name at) means tt)
@@ -138,10 +133,10 @@ module _ (script_told sink_told : Bool) (script : List ℕ) (first : Past) (faul
         h.acted.kept name at last.0
 
     -- nothing was wrong
-    pub run_complete : IsTrue script_told → (w : Durable) → Stands (reads first) w → IsSound first latest → (end ≡ status.ReadFault → ⊥)
-        → (end ≡ status.WriteFault → ⊥) → (end ≡ status.DiskFault → ⊥)
+    pub run_complete : IsTrue script_told → (w : Durable) → Stands (reads first) w → IsTrusted (stands w) first
+        → (end ≡ status.ReadFault → ⊥) → (end ≡ status.WriteFault → ⊥) → (end ≡ status.DiskFault → ⊥)
         → (end ≡ expected (plan_of script).over) ⊎ (end ≡ status.Memory)
-    run_complete told w means sound read write disk = by end refl (ran (stands w) means sound)
+    run_complete told w means trusted read write disk = by end refl (ran (stands w) means trusted)
       where
         by : (how : Status) → end ≡ how → RanAs (stands w) how → (end ≡ expected (plan_of script).over) ⊎ (end ≡ status.Memory)
         by status.Done is h = inl (is ∙ sym (ap expected (h.asked told).ends.1))

@@ -3,21 +3,28 @@ use Rattle.std.proofs.Common.{◌≡◌, ℕ, ◌+◌, ◌≤◌, Bool, IsTrue, 
 use Rattle.file_trait.specs.DiskModel.{Past, reads, Crashes}
 use Rattle.file_trait.specs.Moments.{Moments}
 use Rattle.disk_logs.specs.Crash.{IsSound}
-use Rattle.mn_node.specs.Shown.{HasLog, Shows}
-use Rattle.mn_node.specs.Machine.{Machine, Event, Leaves}
+use Rattle.db_model.specs.Lawful as databases
+use Rattle.mn_node.specs.Durable.{Durable, after}
+use Rattle.mn_node.specs.Shown.{Shows}
+use Rattle.mn_node.specs.Machine.{Machine, Event, AreDone, KeepsAs, HoldsAs, Leaves}
 use Rattle.mn_node.specs.Machine as machines
-use Rattle.mn_node.specs.Meaning.{latest, Meaning, broken}
+use Rattle.mn_node.specs.Meaning.{latest, Meaning, Means, stands, broken}
 use Rattle.mn_node.specs.declared.node.Node.{Node}
 use Rattle.mn_run.specs.Asks.{Passes, GivesUp}
-use Rattle.mn_run.specs.Script.{plan_of, events_of_plan}
-use Rattle.mn_run.specs.Runs.{World, Act, Follows, IsRun, last_of, events_of, line_of, lines_of_acts, last_line, mark_at, marks_of, EndsAt, EndsScript, EndsPrinted, Acted, ArePrinted}
+use Rattle.mn_run.specs.Commands.{Request, IsEventOf, AreEventsOf}
+use Rattle.mn_run.specs.Script.{plan_of, requests_of_plan}
+use Rattle.mn_run.specs.Runs.{IsTrusted, World, Act, Follows, IsRun, last_of, events_of, line_of, lines_of_acts, last_line, mark_at, marks_of, EndsAt, EndsScript, EndsPrinted, Acted, IsAsked, ArePrinted}
 use Rattle.mn_run.specs.Sessions.{Halts, AreUnended}
 use Rattle.mn_run.specs.declared.outcome.Mark.{Mark}
 use Rattle.mn_run.specs.declared.outcome.Status.{Status}
 use Rattle.mn_run.specs.declared.outcome.Status.TheVariants as status
 use Rattle.mn_run.specs.declared.session.Session.{Session}
 use Rattle.mn_run.specs.declared.session.TheConstants.{MOST_GATHERED}
-use Rattle.mn_node.proofs.NodeFacts.{shows_holds}
+use Rattle.mn_node.proofs.Directories.{never_both, one_state}
+use Rattle.mn_node.proofs.Histories.{done_sound, done_first}
+use Rattle.mn_node.proofs.NodeFacts.{shows_holds, shows_lawful, shows_sound, broken_files, broken_untouched}
+use Rattle.mn_node.proofs.Prefixes.{kept_front}
+use Rattle.mn_run.proofs.Requests.{events_push}
 use Rattle.mn_run.proofs.RunActs.{world, world_is, run_more, last_more, events_more, lines_more, last_line_more, if_last_more, done_with, marks_more}
 use Rattle.mn_run.proofs.RunCrash.{LeavesNow, at_moments, sound_moments}
 
@@ -77,15 +84,47 @@ ends_printed T status.DiskFault lost all = all (λ x. x)
 ends_printed T (status.Damaged name at) lost all = all (λ x. x)
 ends_printed T (status.TooLong n) lost all = all (λ x. x)
 
--- nothing was done to a directory without a meaning
-kept_of : (first now : Past) (node : Node) (machine : Machine) (name : List ℕ) (at : ℕ) → Shows first node now machine
-    → machine.base ≡ broken name at → now ≡ first
-kept_of first now node machine name at h is = let log : HasLog (broken name at) first now machine h.earlier =
-    subst (λ (m : Meaning). HasLog m first now machine h.earlier) is h.log in log.1
+-- the acts are of what the script asks for, and this is left of it
+pub record ReadTo (script : List ℕ) (acts : List Act) (todo : List Request) (over : Option ℕ) : Type 0 where
+  pub asked : List Request
+  pub read : requests_of_plan (plan_of script) ≡ asked ++ todo
+  pub are : AreEventsOf asked (events_of acts)
+  pub over_is : (plan_of script).over ≡ over
+
+asked_to : (script : List ℕ) (acts : List Act) (todo : List Request) (over : Option ℕ) (end : Status) → ReadTo script acts todo over
+    → EndsScript end todo over → IsAsked end script acts
+asked_to script acts todo over end h ends = record {
+  asked = h.asked;
+  later = todo;
+  read = h.read;
+  are = h.are;
+  ends = subst (EndsScript end todo) (sym h.over_is) ends;
+}
+
+-- what the directory means then is as a run asks
+trusted_of : (first now : Past) (node : Node) (machine : Machine) → Shows first node now machine → (meaning : Meaning)
+    → Means (reads now) meaning → IsTrusted meaning now
+trusted_of first now node machine h (broken name at) means = tt
+trusted_of first now node machine h (stands w) means = by machine.base refl
+  where
+    by : (base : Meaning) → machine.base ≡ base → IsTrusted (stands w) now
+    by (stands was) is =
+        let lawful : AreDone machine.entries was =
+        subst (λ (m : Meaning). KeepsAs m machine.entries) is (shows_lawful first now node machine h) in
+        let held : HoldsAs (stands was) machine (reads now) =
+        subst (λ (m : Meaning). HoldsAs m machine (reads now)) is (shows_holds first now node machine h).0 in
+        let front = kept_front machine held.0 held.1 in
+        let done : AreDone held.0 was = done_first was held.0 front.0 (subst (λ es. AreDone es was) front.1 lawful) in
+        let same : after was held.0 ≡ w = one_state (reads now) (after was held.0) w held.3 means in (
+          shows_sound first now node machine h was is,
+          subst (λ (u : Durable). databases.IsSound u.database) same (done_sound was held.0 done),
+        )
+    by (broken name at) is =
+        absurd (never_both (reads now) w name at means (broken_files first now node machine h name at is))
 
 module _ (script_told sink_told : Bool) (script : List ℕ) (old : World) (first : List ℕ) where
-  -- Acts that were done and told, with these events still to come. The next one would be answered with so many commands.
-  pub record Front (count : Event → ℕ) (todo : List Event) (over : Option ℕ) (now : Point) : Type 0 where
+  -- Acts that were done and told, with these requests still to come. The next event would be answered with so many commands.
+  pub record Front (count : Event → ℕ) (todo : List Request) (over : Option ℕ) (now : Point) : Type 0 where
     pub acts : List Act
     pub run : IsRun old.past old acts
     pub leaves : Crashes (Leaves old.past old.machine []) old.past
@@ -94,13 +133,13 @@ module _ (script_told sink_told : Bool) (script : List ℕ) (old : World) (first
     pub past : (last_of old acts).past ≡ now.past
     pub faults : (last_of old acts).faults ≡ now.faults
     pub shows : Shows old.past now.node now.past (last_of old acts).machine
-    pub read : IsTrue script_told → (events_of_plan (plan_of script) ≡ events_of acts ++ todo) × ((plan_of script).over ≡ over)
+    pub read : IsTrue script_told → ReadTo script acts todo over
     pub written : IsTrue sink_told → Written acts first now.out now.text
     pub small : length now.text ≤ MOST_GATHERED + length (last_line [] acts)
     pub unended : AreUnended acts
 
   -- the same, by what else is known of the script
-  abbrev pub front_as : (count : Event → ℕ) (todo later : List Event) (over over_then : Option ℕ) (now : Point)
+  abbrev pub front_as : (count : Event → ℕ) (todo later : List Request) (over over_then : Option ℕ) (now : Point)
       → (IsTrue script_told → (todo ≡ later) × (over ≡ over_then)) → Front count todo over now → Front count later over_then now
   front_as count todo later over over_then now same f = record {
     acts = f.acts;
@@ -114,11 +153,16 @@ module _ (script_told sink_told : Bool) (script : List ℕ) (old : World) (first
     written = f.written;
     small = f.small;
     unended = f.unended;
-    read = λ told. ((f.read told).0 ∙ ap (λ es. events_of f.acts ++ es) (same told).0, (f.read told).1 ∙ (same told).1);
+    read = λ told. record {
+      asked = (f.read told).asked;
+      read = (f.read told).read ∙ ap (λ rs. (f.read told).asked ++ rs) (same told).0;
+      are = (f.read told).are;
+      over_is = (f.read told).over_is ∙ (same told).1;
+    };
   }
 
   -- what was gathered was written
-  abbrev pub front_on : (count : Event → ℕ) (todo : List Event) (over : Option ℕ) (now : Point) (out text : List ℕ)
+  abbrev pub front_on : (count : Event → ℕ) (todo : List Request) (over : Option ℕ) (now : Point) (out text : List ℕ)
       → (IsTrue sink_told → Passes ⊥ now.text text now.out out) → length text ≤ length now.text → Front count todo over now
       → Front count todo over (record now { out = out; text = text })
   front_on count todo over now out text passed less f = record {
@@ -150,15 +194,16 @@ module _ (script_told sink_told : Bool) (script : List ℕ) (old : World) (first
     past = at;
     faults = count;
     held = shows_holds old.past now node (last_of old acts).machine shows;
-    kept = λ name place is. kept_of old.past now node (last_of old acts).machine name place shows is;
+    kept = λ name place is. broken_untouched old.past now node (last_of old acts).machine shows name place is;
     crash = subst (λ (p : Past). Moments (LeavesNow old.past old acts) old.past p) at (at_moments old.past old acts run leaves);
     sound = λ sound. subst (λ (p : Past). Moments (λ past. IsSound past latest) old.past p) at (sound_moments old.past old acts run sound);
+    trusted = trusted_of old.past now node (last_of old acts).machine shows;
     ends = ends;
   }
 
   -- ---- a call ends the run that answered nothing
 
-  pub halt_now : (T : Type 0) (count : Event → ℕ) (todo : List Event) (over : Option ℕ) (now : Point) (out text : List ℕ) (end : Status)
+  pub halt_now : (T : Type 0) (count : Event → ℕ) (todo : List Request) (over : Option ℕ) (now : Point) (out text : List ℕ) (end : Status)
       (f : Front count todo over now)
       → EndsAt end [] (reads now.past) (last_of old f.acts).machine → (IsTrue script_told → EndsScript end todo over)
       → (IsTrue sink_told → Passes (GivesUp {T = T} (Err end)) now.text text now.out out)
@@ -168,7 +213,7 @@ module _ (script_told sink_told : Bool) (script : List ℕ) (old : World) (first
       acts = f.acts;
       acted = acted end f.acts now.node now.past now.faults now.marks [] f.run f.leaves f.past f.faults
           (f.marked ∙ sym (append-nil now.marks)) (omega arith) f.shows ends;
-      asked = λ told. record { later = todo; read = (f.read told).0; ends = subst (EndsScript end todo) (sym (f.read told).1) (asks told) };
+      asked = λ told. asked_to script f.acts todo over end (f.read told) (asks told);
       printed = λ told. printed_so f.acts first now.out now.text (f.written told) (GivesUp {T = T} (Err end)) out text
           (passed told) end f.small (ends_printed T end (passed told).lost (passed told).all);
     },
@@ -177,11 +222,12 @@ module _ (script_told sink_told : Bool) (script : List ℕ) (old : World) (first
 
   -- ---- one act more
 
-  abbrev pub here : (count : Event → ℕ) (todo : List Event) (over : Option ℕ) (now : Point) → Front count todo over now → World
+  abbrev pub here : (count : Event → ℕ) (todo : List Request) (over : Option ℕ) (now : Point) → Front count todo over now → World
   here count todo over now f = world (last_of old f.acts).machine now.past now.faults
 
-  module _ (count : Event → ℕ) (todo : List Event) (over : Option ℕ) (now new : Point) (a : Act) (f : Front count (a.event ∷ todo) over now)
-      (step : Follows old.past (here count (a.event ∷ todo) over now f) a)
+  module _ (count : Event → ℕ) (todo : List Request) (over : Option ℕ) (now new : Point) (a : Act) (r : Request)
+      (meant : IsTrue script_told → IsEventOf r a.event) (f : Front count (r ∷ todo) over now)
+      (step : Follows old.past (here count (r ∷ todo) over now f) a)
       (shows : Shows old.past new.node new.past a.after.machine) (past : a.after.past ≡ new.past) (faults : a.after.faults ≡ new.faults)
       (out : new.out ≡ now.out) where
     abbrev acts : List Act
@@ -194,9 +240,14 @@ module _ (script_told sink_told : Bool) (script : List ℕ) (old : World) (first
     last : last_of old acts ≡ a.after
     last = last_more old f.acts a
 
-    read_more : IsTrue script_told → events_of_plan (plan_of script) ≡ events_of acts ++ todo
-    read_more told = (f.read told).0 ∙ sym (append_assoc (events_of f.acts) (a.event ∷ []) todo)
-        ∙ ap (λ es. es ++ todo) (sym (events_more f.acts a))
+    read_more : IsTrue script_told → ReadTo script acts todo over
+    read_more told = record {
+      asked = (f.read told).asked ++ r ∷ [];
+      read = (f.read told).read ∙ sym (append_assoc (f.read told).asked (r ∷ []) todo);
+      are = subst (AreEventsOf ((f.read told).asked ++ r ∷ [])) (sym (events_more f.acts a))
+          (events_push (f.read told).asked (events_of f.acts) r a.event (f.read told).are (meant told));
+      over_is = (f.read told).over_is;
+    }
 
     -- with these bytes of its line, and the rest
     lines_with : (told : IsTrue sink_told) (text : List ℕ) → text ≡ now.text ++ line_of a.event a.answer
@@ -222,7 +273,7 @@ module _ (script_told sink_told : Bool) (script : List ℕ) (old : World) (first
       shows = subst (λ (w : World). Shows old.past new.node new.past w.machine) (sym last) shows;
       small = omega (arith, few, ap length text, length-append now.text (line_of a.event a.answer), ap length (last_line_more [] f.acts a));
       unended = if_last_more (λ act. act.event ≡ machines.end → ⊥) f.acts a goes_on;
-      read = λ told. (read_more told, (f.read told).1);
+      read = read_more;
       written = λ told. record {
         printed = (f.written told).printed;
         grown = out ∙ (f.written told).grown;
@@ -251,7 +302,7 @@ module _ (script_told sink_told : Bool) (script : List ℕ) (old : World) (first
             (ap (λ (w : World). w.faults) last ∙ faults)
             (marks_with taken unmarked mark marks) few (subst (λ (w : World). Shows old.past new.node new.past w.machine) (sym last) shows)
             (subst (λ (w : World). EndsAt end unmarked (reads new.past) w.machine) (sym last) ends);
-        asked = λ told. record { later = todo; read = read_more told; ends = subst (EndsScript end todo) (sym (f.read told).1) (asks told) };
+        asked = λ told. asked_to script acts todo over end (read_more told) (asks told);
         printed = λ told. record {
           printed = (f.written told).printed;
           unprinted = rest;

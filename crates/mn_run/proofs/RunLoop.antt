@@ -4,19 +4,22 @@ use Rattle.std.proofs.lemmas.List.{take-append-drop}
 use Rattle.std.proofs.Math.Seq.{drop-nil}
 use Rattle.file_trait.specs.Counts.{Rose}
 use Rattle.file_trait.specs.DiskModel.{Past, reads}
-use Rattle.txn_log.specs.Logs.{Reads}
-use Rattle.mn_node.specs.Puts.{ArePuts}
-use Rattle.mn_node.proofs.MachineLaws.{answers_undamaged}
+use Rattle.mn_node.proofs.Answers.{answers_undamaged}
+use Rattle.mn_node.proofs.NodeFacts.{shows_closed, shows_first}
 use Rattle.mn_node.specs.Shown.{ShowsLife, Shows, IsFew, IsFaulted, IsWhole}
-use Rattle.mn_node.specs.Machine.{Machine, Event, Answer, stopped, is_down, fault, damaged, Life, halted, faulted, ruined, IsAlive, unstarted_machine, Step, Change, Boots, ComesUp, Choice, as_asked, out_of_memory, failed, Comes, Effect, effect, now_of, Does, HoldsClosed, added}
+use Rattle.mn_node.specs.Effects.{Command, stop, Answer, stopped, is_down, fault, damaged, Effect, effect}
+use Rattle.mn_node.specs.Machine.{Machine, Event, Life, halted, faulted, ruined, IsAlive, unstarted_machine, Step, Change, Boots, ComesUp, Choice, as_asked, out_of_memory, failed, Comes, now_of, Does}
 use Rattle.mn_node.specs.Machine as machines
-use Rattle.mn_node.specs.Meaning.{Files, latest, Meaning, Means, stands, broken}
+use Rattle.mn_node.specs.Meaning.{Files, Meaning, Means, stands, broken}
 use Rattle.mn_node.specs.declared.node.Node.{Node}
 use Rattle.mn_node.specs.declared.node.State.{State}
 use Rattle.mn_node.specs.declared.node.State.TheVariants.{Unstarted, Up, Stopped, Faulted, Starved, Ruined}
+use Rattle.mn_script.specs.Commands.{start}
 use Rattle.mn_run.specs.Asks.{Asks, Goes, Passes, GivesUp, IsKeptOrGone, IsOfReading, IsOfFlushing}
+use Rattle.mn_run.specs.Commands.{Request, IsEventOf}
+use Rattle.mn_run.specs.Commands as requests
 use Rattle.mn_run.specs.Replies.{text_of}
-use Rattle.mn_run.specs.Runs.{World, Act, Follows, last_of, line_of, IfLast, WantsAt, HasWanted, commands_of, marks_of, mark_of, mark_if, mark_at, IsTrusted, EndsAt, EndsScript, EndsPrinted, Acted, IsAsked, ArePrinted, Ran}
+use Rattle.mn_run.specs.Runs.{World, Act, Follows, last_of, line_of, WantsAt, HasWanted, commands_of, marks_of, mark_of, mark_if, mark_at, IsTrusted, EndsAt, EndsScript, EndsPrinted, Acted, IsAsked, ArePrinted, Ran}
 use Rattle.mn_run.specs.Script.{Plan, behind, plan_of, at_end}
 use Rattle.mn_run.specs.Seen.{event}
 use Rattle.mn_run.specs.Sessions.{Served, Ended, EndsAs, MarksEnd, IsOfAnswering, IsOfEnding, Finished, Halts, AreUnended, Gave, new_node}
@@ -29,6 +32,7 @@ use Rattle.mn_run.specs.declared.outcome.Status.{Status}
 use Rattle.mn_run.specs.declared.outcome.Status.TheVariants as status
 use Rattle.mn_run.specs.declared.session.Session.{Session}
 use Rattle.mn_run.specs.declared.session.TheConstants.{MOST_GATHERED}
+use Rattle.mn_run.proofs.Requests.{request_told}
 use Rattle.mn_run.proofs.RunActs.{world, act, follows, if_last_more, if_last_map, wants_elsewhere, no_end, done_with, done_more, mark_few, prints, is_command, no_mark, one_mark}
 use Rattle.mn_run.proofs.RunFronts.{Point, point, Front, here, front_as, front_on, front_more, marks_with, halt_now, halt_with}
 
@@ -36,14 +40,14 @@ use Rattle.mn_run.proofs.RunFronts.{Point, point, Front, here, front_as, front_o
 
 answered : (c : Choice) (e : Effect) (old : Machine) (given : Answer) (new : Machine) → e.answer ≡ stopped → Comes c e old given new
     → given ≡ stopped → new.life ≡ (machines.with_effect e old).life
-answered as_asked e old given new told (is, so) stop = ap (λ (m : Machine). m.life) so
-answered out_of_memory e old given new told (is, so) stop = let other = sym is ∙ stop in absurd cc
-answered (failed name) e old given new told (is, so) stop = let other = sym is ∙ stop in absurd cc
+answered as_asked e old given new told (is, so) stops = ap (λ (m : Machine). m.life) so
+answered out_of_memory e old given new told (is, so) stops = let other = sym is ∙ stops in absurd cc
+answered (failed name) e old given new told (is, so) stops = let other = sym is ∙ stops in absurd cc
 
 ended_halted : (old : Machine) (given : Answer) (new : Machine) → Change old machines.end given new → EndsAs given new status.Done
     → new.life ≡ halted
 ended_halted old stopped new (inl (up, choice, may, comes)) how =
-    answered choice (effect (now_of old) machines.stop) old stopped new refl comes refl
+    answered choice (effect (now_of old) stop) old stopped new refl comes refl
 ended_halted old stopped new (inr (down, (is, so))) how = absurd cc
 ended_halted old is_down new change how = how
 ended_halted old given new change how = absurd how
@@ -57,7 +61,7 @@ failed_life (failed file) e old name new told (is, so) = ap (λ (m : Machine). m
 ended_faulted : (old : Machine) (given : Answer) (new : Machine) → Change old machines.end given new → EndsAs given new status.DiskFault
     → new.life ≡ faulted
 ended_faulted old (fault name) new (inl (up, choice, may, comes)) how =
-    failed_life choice (effect (now_of old) machines.stop) old name new refl comes
+    failed_life choice (effect (now_of old) stop) old name new refl comes
 ended_faulted old (fault name) new (inr (down, (is, so))) how = absurd cc
 ended_faulted old is_down new change how = how
 ended_faulted old given new change how = absurd how
@@ -76,19 +80,6 @@ wants_end AllMarked old is_down new mark change how none = how
 wants_end AllMarked old (damaged name at) new mark change how none = absurd (never_damaged old name at new change)
 wants_end AllMarked old given new mark change how none = none (omega arith)
 
--- a machine that was halted is shown by a closed log
-closed_of : (first : Past) (node : Node) (past : Past) (machine : Machine) → Shows first node past machine → machine.life ≡ halted
-    → HoldsClosed (reads past) machine
-closed_of first node past machine h is = by node.state h.life
-  where
-    by : (state : State) → ShowsLife state past machine h.earlier → HoldsClosed (reads past) machine
-    by Unstarted life = let other = sym life ∙ is in absurd cc
-    by (Up live) life = let other = sym life.running ∙ is in absurd cc
-    by Stopped life = life.1
-    by Faulted life = let other = sym life ∙ is in absurd cc
-    by Starved life = let other = sym life ∙ is in absurd cc
-    by Ruined life = let other = sym life ∙ is in absurd cc
-
 -- ---- damage
 
 boots_ruin : (base : Meaning) (old : Machine) (name : List ℕ) (at : ℕ) (new : Machine) → old.base ≡ base
@@ -106,13 +97,13 @@ up_ruins as_asked old name at new comes = boots_ruin old.base old name at new re
 up_ruins out_of_memory old name at new (told, so) = absurd cc
 up_ruins (failed file) old name at new (named, told, so) = absurd cc
 
-comes_undamaged : (choice : Choice) (w : machines.Command) (old : Machine) (name : List ℕ) (at : ℕ) (new : Machine)
+comes_undamaged : (choice : Choice) (w : Command) (old : Machine) (name : List ℕ) (at : ℕ) (new : Machine)
     → Comes choice (effect (now_of old) w) old (damaged name at) new → ⊥
 comes_undamaged as_asked w old name at new (told, so) = answers_undamaged (now_of old) w name at (sym told)
 comes_undamaged out_of_memory w old name at new (told, so) = cc
 comes_undamaged (failed file) w old name at new (told, so) = cc
 
-does_undamaged : (w : machines.Command) (old : Machine) (name : List ℕ) (at : ℕ) (new : Machine) → Does w old (damaged name at) new → ⊥
+does_undamaged : (w : Command) (old : Machine) (name : List ℕ) (at : ℕ) (new : Machine) → Does w old (damaged name at) new → ⊥
 does_undamaged w old name at new (inl (up, choice, may, comes)) = comes_undamaged choice w old name at new comes
 does_undamaged w old name at new (inr (down, (told, so))) = cc
 
@@ -124,13 +115,20 @@ found_damage old machines.start name at new (inr (down, choice, comes)) = up_rui
 found_damage old (machines.command w) name at new does = absurd (does_undamaged w old name at new does)
 found_damage old (machines.refused place) name at new (told, so) = absurd cc
 found_damage old machines.turn name at new (told, so) = absurd cc
-found_damage old machines.end name at new does = absurd (does_undamaged machines.stop old name at new does)
+found_damage old machines.end name at new does = absurd (does_undamaged stop old name at new does)
 
 -- ---- what was asked
 
-pub is_do : (asked : Ask) (line : Line) (plan later : Plan) → asked ≡ ask.Do line → Asks (Ok asked) plan later
-    → plan ≡ behind (event line ∷ []) later
-is_do asked line plan later is h = subst (λ a. Asks (Ok a) plan later) is h
+-- of the plan the line's request is the first
+abbrev pub IsNext : Line → Plan → Plan → Request → Type 0
+IsNext line plan later r = IsEventOf r (event line) × (plan ≡ behind (r ∷ []) later)
+
+-- where the source does not tell its bytes, nothing is said of the request
+pub do_request : (told : Bool) (asked : Ask) (line : Line) (plan later : Plan) → asked ≡ ask.Do line
+    → (IsTrue told → Asks (Ok asked) plan later) → (r : Request) × (IsTrue told → IsNext line plan later r)
+do_request told asked line plan later is h =
+    request_told told (IsNext line plan later)
+    (λ at. let next = subst (λ a. Asks (Ok a) plan later) is (h at) in (next.0, (next.1, next.2)))
 
 pub is_blank : (asked : Ask) (plan later : Plan) → asked ≡ ask.Blank → Asks (Ok asked) plan later → plan ≡ later
 is_blank asked plan later is h = subst (λ a. Asks (Ok a) plan later) is h
@@ -149,7 +147,7 @@ goes_blank asked before now done done_now is h = (subst (λ a. Goes a before now
 pub goes_end : (asked : Ask) (before now done done_now : ℕ) → asked ≡ ask.End → Goes asked before now done done_now → done_now ≡ done
 goes_end asked before now done done_now is h = (subst (λ a. Goes a before now done done_now) is h).1
 
-abbrev pub todo_of : Plan → List Event
+abbrev pub todo_of : Plan → List Request
 todo_of plan = plan.commands ++ at_end plan.over
 
 abbrev pub counts_from : ℕ → Event → ℕ
@@ -161,39 +159,10 @@ counts_none next = 0
 
 -- ---- the beginning
 
-none_behind : {A : Type 0} (P : List A → Type 0) (xs : List A) → P xs → P (xs ++ [])
-none_behind P xs h = subst P (sym (append-nil xs)) h
-
 pub new_shows : (first : Past) (meaning : Meaning) → Means (reads first) meaning → IsTrusted meaning first
     → Shows first new_node first (unstarted_machine meaning)
-new_shows first (stands w) (commits, has, puts, made_is) sound = record {
-  earlier = commits;
-  life = refl;
-  base = (refl, refl);
-  entries = refl;
-  synced = refl;
-  log = (
-    record {
-      base_is = ap stands made_is;
-      kept = [];
-      is_kept = inl refl;
-      within = omega arith;
-      has = none_behind (λ cs. Reads cs (reads first latest)) commits has;
-      puts = none_behind ArePuts commits puts;
-    },
-    sound,
-  );
-  leaves = λ image is. inl (image, is, refl);
-}
-new_shows first (broken name at) is sound = record {
-  earlier = [];
-  life = refl;
-  base = (refl, refl);
-  entries = refl;
-  synced = refl;
-  log = (is, refl);
-  leaves = λ image is. inl (image, is, refl);
-}
+new_shows first meaning means trusted =
+    shows_first first meaning means (λ w is. subst (λ (m : Meaning). IsTrusted m first) is trusted)
 
 pub node_shows : (first : Past) (meaning : Meaning) (node : Node) → node ≡ new_node → Means (reads first) meaning → IsTrusted meaning first
     → Shows first node first (unstarted_machine meaning)
@@ -219,7 +188,7 @@ less_of text text_now (inl kept) = omega (arith, ap length kept)
 less_of text text_now (inr gone) = omega (arith, ap length gone)
 
 module _ (script_told sink_told : Bool) (script : List ℕ) (old : World) (first : List ℕ) where
-  abbrev pub FrontAt : (Event → ℕ) → List Event → Option ℕ → Point → Type 0
+  abbrev pub FrontAt : (Event → ℕ) → List Request → Option ℕ → Point → Type 0
   FrontAt = Front script_told sink_told script old first
 
   -- the loop is at a line: of the plan this is left, and so many commands were answered
@@ -235,7 +204,7 @@ module _ (script_told sink_told : Bool) (script : List ℕ) (old : World) (first
   unstarted node = record { node = node; past = old.past; faults = old.faults; out = first; text = []; marks = [] }
 
   abbrev pub nothing : (node : Node) → Shows old.past node old.past old.machine
-      → FrontAt counts_none (machines.start ∷ todo_of (plan_of script)) (plan_of script).over
+      → FrontAt counts_none (requests.asks start ∷ todo_of (plan_of script)) (plan_of script).over
       (unstarted node)
   nothing node shows = record {
     acts = [];
@@ -246,7 +215,7 @@ module _ (script_told sink_told : Bool) (script : List ℕ) (old : World) (first
     past = refl;
     faults = refl;
     shows = shows;
-    read = λ told. (refl, refl);
+    read = λ told. record { asked = []; read = refl; are = tt; over_is = refl };
     written = λ told. record { printed = []; grown = sym (append-nil first); lines = refl };
     small = omega arith;
     unended = tt;
@@ -266,10 +235,11 @@ module _ (script_told sink_told : Bool) (script : List ℕ) (old : World) (first
 
   -- ---- a line is answered
 
-  module _ (count : Event → ℕ) (todo : List Event) (over : Option ℕ) (now : Point) (line : Line)
-      (f : FrontAt count (event line ∷ todo) over now) (result : Result Unit Status) (session new : Session) (past : Past) (faults : ℕ)
-      (same_text : session.text.items ≡ now.text) (same_marks : session.marks.items ≡ now.marks)
-      (h : Served old.past (here script_told sink_told script old first count (event line ∷ todo) over now f) (event line)
+  module _ (count : Event → ℕ) (todo : List Request) (over : Option ℕ) (now : Point) (line : Line) (r : Request)
+      (meant : IsTrue script_told → IsEventOf r (event line)) (f : FrontAt count (r ∷ todo) over now) (result : Result Unit Status)
+      (session new : Session) (past : Past) (faults : ℕ) (same_text : session.text.items ≡ now.text)
+      (same_marks : session.marks.items ≡ now.marks)
+      (h : Served old.past (here script_told sink_told script old first count (r ∷ todo) over now f) (event line)
       (count (event line)) result session new past faults) where
     abbrev then : Point
     then = point new past faults now.out
@@ -277,7 +247,7 @@ module _ (script_told sink_told : Bool) (script : List ℕ) (old : World) (first
     abbrev a : Act
     a = act (event line) h.answer (world h.steps.new past faults)
 
-    step : Follows old.past (here script_told sink_told script old first count (event line ∷ todo) over now f) a
+    step : Follows old.past (here script_told sink_told script old first count (r ∷ todo) over now f) a
     step = follows old.past (last_of old f.acts).machine now.past now.faults
         (event line) h.answer session.node new.node past faults h.steps h.later h.rose h.answered
 
@@ -285,8 +255,8 @@ module _ (script_told sink_told : Bool) (script : List ℕ) (old : World) (first
         → done_with (before ++ a ∷ []) next ≡ count_now next)
         → length now.text ≤ MOST_GATHERED → result ≡ Ok tt → FrontAt count_now todo over then
     line_more count_now counts few ok =
-        front_more script_told sink_told script old first count todo over now then a f step h.steps.shows refl refl refl count_now counts
-        few
+        front_more script_told sink_told script old first count todo over now then a r meant f step h.steps.shows refl refl refl
+        count_now counts few
         ((h.told.ok ok).0 ∙ ap (λ xs. xs ++ text_of h.answer) same_text ∙ ap (λ xs. now.text ++ xs) (sym (prints line h.answer)))
         ((h.told.ok ok).1 ∙ ap (λ xs. xs ++ mark_of (count (event line)) a.after ∷ []) same_marks
         ∙ ap (λ xs. now.marks ++ xs) (sym
@@ -312,15 +282,16 @@ module _ (script_told sink_told : Bool) (script : List ℕ) (old : World) (first
 
     line_ends : (end : Status) → result ≡ Err end → IsOfAnswering end → length now.text ≤ MOST_GATHERED → HaltsAt end then
     line_ends status.Memory err only small = unended status.Memory
-        (halt_with script_told sink_told script old first count todo over now then a f step h.steps.shows refl refl refl status.Memory
-        rest_of [] (mark_at (count (event line)) a) small rest_is refl
+        (halt_with script_told sink_told script old first count todo over now then a r meant f step h.steps.shows refl refl refl
+        status.Memory rest_of [] (mark_at (count (event line)) a) small rest_is refl
         (h.told.err status.Memory err ∙ same_marks ∙ sym (append-nil now.marks))
         (mark_few (event line) h.answer (mark_of (count (event line)) a.after)) tt (λ told. tt) tt)
     line_ends (status.Damaged name at) err only small =
         let is : h.answer ≡ damaged name at = h.told.damage name at err in
         let found = found_damage (last_of old f.acts).machine (event line) name at h.steps.new
         (subst (λ (x : Answer). Change (last_of old f.acts).machine (event line) x h.steps.new) is h.steps.step.change) in
-        unended (status.Damaged name at) (halt_with script_told sink_told script old first count todo over now then a f step h.steps.shows refl refl refl
+        unended (status.Damaged name at)
+        (halt_with script_told sink_told script old first count todo over now then a r meant f step h.steps.shows refl refl refl
         (status.Damaged name at) rest_of [] [] small rest_is
         (ap (λ (x : Answer). mark_if (event line) x (mark_of (count (event line)) a.after)) is
         ∙ no_mark line name at (mark_of (count (event line)) a.after))
@@ -338,7 +309,7 @@ module _ (script_told sink_told : Bool) (script : List ℕ) (old : World) (first
       (point new past faults first)
   first_more node shows session new past faults text marks h =
       line_more counts_none (todo_of (plan_of script)) (plan_of script).over
-      (unstarted node) Start (nothing node shows)
+      (unstarted node) Start (requests.asks start) (λ told. refl) (nothing node shows)
       (Ok tt) session new past faults text marks h
       (counts_from 0) (first_counts _) (omega arith) refl
 
@@ -348,29 +319,29 @@ module _ (script_told sink_told : Bool) (script : List ℕ) (old : World) (first
       → HaltsAt end (point new past faults first)
   first_ends node shows session new past faults end text marks h only =
       line_ends counts_none (todo_of (plan_of script)) (plan_of script).over
-      (unstarted node) Start (nothing node shows)
+      (unstarted node) Start (requests.asks start) (λ told. refl) (nothing node shows)
       (Err end) session new past faults text marks h
       end refl only (omega arith)
 
   -- at a line: what was gathered before may be written, and of the plan the line is the first
-  abbrev pub at_event : (plan : Plan) (done : ℕ) (now : Point) (todo : List Event) (over : Option ℕ) (out text : List ℕ)
+  abbrev pub at_request : (plan : Plan) (done : ℕ) (now : Point) (todo : List Request) (over : Option ℕ) (out text : List ℕ)
       → (IsTrue script_told → (todo_of plan ≡ todo) × (plan.over ≡ over)) → (IsTrue sink_told → Passes ⊥ now.text text now.out out)
       → length text ≤ length now.text → SoFar plan done now → FrontAt (counts_from done) todo over (record now { out = out; text = text })
-  at_event plan done now todo over out text is passed less s =
+  at_request plan done now todo over out text is passed less s =
       front_as script_told sink_told script old first (counts_from done) (todo_of plan) todo plan.over over
       (record now { out = out; text = text }) is
       (front_on script_told sink_told script old first (counts_from done) (todo_of plan) plan.over now out text passed less s)
 
-  pub do_is : (plan later : Plan) (line : Line) → (IsTrue script_told → plan ≡ behind (event line ∷ []) later) → IsTrue script_told
-      → (todo_of plan ≡ event line ∷ todo_of later) × (plan.over ≡ later.over)
-  do_is plan later line is told = (ap todo_of (is told), ap (λ (p : Plan). p.over) (is told))
+  pub do_is : (plan later : Plan) (line : Line) (r : Request) → (IsTrue script_told → IsNext line plan later r) → IsTrue script_told
+      → (todo_of plan ≡ r ∷ todo_of later) × (plan.over ≡ later.over)
+  do_is plan later line r is told = (ap todo_of (is told).1, ap (λ (p : Plan). p.over) (is told).1)
 
   pub blank_is : (plan later : Plan) → (IsTrue script_told → plan ≡ later) → IsTrue script_told
       → (todo_of plan ≡ todo_of later) × (plan.over ≡ later.over)
   blank_is plan later is told = (ap todo_of (is told), ap (λ (p : Plan). p.over) (is told))
 
   pub end_is : (plan : Plan) → (IsTrue script_told → plan ≡ record { commands = []; over = None }) → IsTrue script_told
-      → (todo_of plan ≡ machines.end ∷ []) × (plan.over ≡ None)
+      → (todo_of plan ≡ requests.ends ∷ []) × (plan.over ≡ None)
   end_is plan is told = (ap todo_of (is told), ap (λ (p : Plan). p.over) (is told))
 
   pub blank_more : (plan later : Plan) (done done_now : ℕ) (now : Point) (out text : List ℕ) → (IsTrue script_told → plan ≡ later)
@@ -378,11 +349,11 @@ module _ (script_told sink_told : Bool) (script : List ℕ) (old : World) (first
       → SoFar plan done now → SoFar later done_now (record now { out = out; text = text })
   blank_more plan later done done_now now out text is same passed less s =
       subst (λ n. SoFar later n (record now { out = out; text = text })) (sym same)
-      (at_event plan done now (todo_of later) later.over out text (blank_is plan later is) passed less s)
+      (at_request plan done now (todo_of later) later.over out text (blank_is plan later is) passed less s)
 
-  module _ (later : Plan) (done done_now : ℕ) (now : Point) (line : Line)
-      (f : FrontAt (counts_from done) (event line ∷ todo_of later) later.over now) (next : done_now ≡ done + 1) (session new : Session)
-      (past : Past) (faults : ℕ)
+  module _ (plan later : Plan) (done done_now : ℕ) (now : Point) (line : Line) (r : Request)
+      (meant : IsTrue script_told → IsNext line plan later r) (f : FrontAt (counts_from done) (r ∷ todo_of later) later.over now)
+      (next : done_now ≡ done + 1) (session new : Session) (past : Past) (faults : ℕ)
       (same_text : session.text.items ≡ now.text) (same_marks : session.marks.items ≡ now.marks)
       (few : length now.text ≤ MOST_GATHERED) where
     abbrev ServedHere : ℕ → Result Unit Status → Type 0
@@ -396,20 +367,21 @@ module _ (script_told sink_told : Bool) (script : List ℕ) (old : World) (first
         (point new past faults now.out)
     do_more h =
         let g : ServedHere (counts_from done (event line)) (Ok tt) = subst (λ n. ServedHere n (Ok tt)) count_is h in
-        line_more (counts_from done) (todo_of later) later.over now line f (Ok tt) session new past faults same_text same_marks g
-        (counts_from done_now) (line_counts _ line done done_now refl next) few refl
+        line_more (counts_from done) (todo_of later) later.over now line r (λ told. (meant told).0) f (Ok tt) session new past faults
+        same_text same_marks g (counts_from done_now) (line_counts _ line done done_now refl next) few refl
 
     pub do_ends : (end : Status) → ServedHere done_now (Err end) → IsOfAnswering end
         → HaltsAt end (point new past faults now.out)
     do_ends end h only =
         let g : ServedHere (counts_from done (event line)) (Err end) = subst (λ n. ServedHere n (Err end)) count_is h in
-        line_ends (counts_from done) (todo_of later) later.over now line f
+        line_ends (counts_from done) (todo_of later) later.over now line r (λ told. (meant told).0) f
         (Err end) session new past faults same_text same_marks g end refl only few
 
   -- ---- reading or writing ends the run
 
   -- where no start found the directory broken the machine goes on
-  is_alive : (begun past : Past) (node : Node) (machine : Machine) → Shows begun node past machine → IsWhole node.state → IsAlive machine.life
+  is_alive : (begun past : Past) (node : Node) (machine : Machine) → Shows begun node past machine → IsWhole node.state
+      → IsAlive machine.life
   is_alive begun past node machine h = by node.state h.life
     where
       by : (state : State) → ShowsLife state past machine h.earlier → IsWhole state → IsAlive machine.life
@@ -450,7 +422,7 @@ module _ (script_told sink_told : Bool) (script : List ℕ) (old : World) (first
       (is_alive old.past now.past now.node (last_of old s.acts).machine s.shows whole))
       (λ told. read_script plan later end (asks told) only) passed
 
-  pub flush_ends : (count : Event → ℕ) (todo : List Event) (over : Option ℕ) (now : Point) (out text : List ℕ) (end : Status)
+  pub flush_ends : (count : Event → ℕ) (todo : List Request) (over : Option ℕ) (now : Point) (out text : List ℕ) (end : Status)
       (f : FrontAt count todo over now) → IsOfFlushing end
       → (IsTrue sink_told → Passes (GivesUp {T = Unit {0}} (Err end)) now.text text now.out out)
       → HaltsAt end (record now { out = out; text = text })
@@ -482,7 +454,7 @@ module _ (script_told sink_told : Bool) (script : List ℕ) (old : World) (first
     wanted = wanted;
   }
 
-  module _ (done done_now : ℕ) (now : Point) (f : FrontAt (counts_from done) (machines.end ∷ []) None now) (same : done_now ≡ done)
+  module _ (done done_now : ℕ) (now : Point) (f : FrontAt (counts_from done) (requests.ends ∷ []) None now) (same : done_now ≡ done)
       (none : now.text ≡ []) (session new : Session) (past : Past) (faults : ℕ) (same_marks : session.marks.items ≡ now.marks)
       (end : Status)
       (h : Ended old.past (world (last_of old f.acts).machine now.past now.faults) done_now end session new past faults) where
@@ -504,9 +476,9 @@ module _ (script_told sink_told : Bool) (script : List ℕ) (old : World) (first
         → Ran script_told sink_told script end old past faults first now.out new.marks.items
     ends_with taken unmarked mark marks few ends asks prints wanted =
         let halts =
-        (halt_with script_told sink_told script old first (counts_from done) [] None now ended b f
-        (follows old.past (last_of old f.acts).machine now.past now.faults machines.end h.answer session.node new.node past faults h.steps h.later
-        h.rose h.answered) h.steps.shows refl refl refl
+        (halt_with script_told sink_told script old first (counts_from done) [] None now ended b requests.ends (λ told. refl) f
+        (follows old.past (last_of old f.acts).machine now.past now.faults machines.end h.answer session.node new.node past faults h.steps
+        h.later h.rose h.answered) h.steps.shows refl refl refl
         end [] taken unmarked (omega (arith, ap length none)) (sym none ∙ sym (append-nil now.text)) (left_is ∙ mark)
         (marks ∙ ap (λ xs. xs ++ taken) same_marks) few ends (λ told. asks) prints) in
         ran_of end ended refl halts.0 (λ is. subst (λ acts. HasWanted acts new.marks.items) (sym halts.1) (wanted is))
@@ -520,9 +492,9 @@ module _ (script_told sink_told : Bool) (script : List ℕ) (old : World) (first
     -- the mark of the end is not among those that were taken
     none_marked : new.marks.items ≡ session.marks.items → 0 < length left → marks_of (f.acts ++ b ∷ []) ≡ new.marks.items → ⊥
     none_marked none some all =
-        let parts = marks_with script_told sink_told script old first (counts_from done) [] None now ended b f
-        (follows old.past (last_of old f.acts).machine now.past now.faults machines.end h.answer session.node new.node past faults h.steps h.later
-        h.rose h.answered) h.steps.shows refl refl refl [] left left_is
+        let parts = marks_with script_told sink_told script old first (counts_from done) [] None now ended b requests.ends (λ told. refl) f
+        (follows old.past (last_of old f.acts).machine now.past now.faults machines.end h.answer session.node new.node past faults h.steps
+        h.later h.rose h.answered) h.steps.shows refl refl refl [] left left_is
         (none ∙ same_marks ∙ sym (append-nil now.marks)) in
         omega (arith, ap length parts, ap length all, length-append new.marks.items left, some)
 
@@ -534,7 +506,7 @@ module _ (script_told sink_told : Bool) (script : List ℕ) (old : World) (first
         (subst (EndsAs h.answer h.steps.new) is h.how) in
         all_taken (subst (λ e. MarksEnd e left session.marks.items new.marks.items) is h.marked)
         (subst (λ e. EndsAt e [] (reads past) h.steps.new) (sym is)
-        (refl, life, closed_of old.past new.node past h.steps.new h.steps.shows life))
+        (refl, life, shows_closed old.past past new.node h.steps.new h.steps.shows life))
         (subst (λ e. EndsScript e [] None) (sym is) (refl, refl)) (subst (λ e. EndsPrinted e []) (sym is) refl)
         (λ wants. let other = sym is ∙ wants in cc other)
     end_ends status.DiskFault is only =
@@ -578,6 +550,7 @@ module _ (script_told sink_told : Bool) (script : List ℕ) (old : World) (first
     kept = h.kept;
     crash = h.crash;
     sound = h.sound;
+    trusted = h.trusted;
     ends = by result only;
   }
     where
@@ -589,7 +562,13 @@ module _ (script_told sink_told : Bool) (script : List ℕ) (old : World) (first
   asked_as : (end result : Status) (acts : List Act) → (result ≡ end) ⊎ IsOfFlushing result → IsAsked end script acts
       → IsAsked result script acts
   asked_as end result acts (inl same) h = subst (λ e. IsAsked e script acts) (sym same) h
-  asked_as end result acts (inr only) h = record { later = h.later; read = h.read; ends = by result only }
+  asked_as end result acts (inr only) h = record {
+    asked = h.asked;
+    later = h.later;
+    read = h.read;
+    are = h.are;
+    ends = by result only;
+  }
     where
       by : (e : Status) → IsOfFlushing e → EndsScript e h.later (plan_of script).over
       by status.WriteFault only = tt

@@ -5,7 +5,8 @@ use Rattle.std.proofs.lemmas.List.{take_all}
 use Rattle.file_trait.specs.Counts.{Rose}
 use Rattle.file_trait.specs.DiskModel.{Past, clock}
 use Rattle.mn_node.specs.Shown.{Shows, ShowsLife, Steps, IsWhole}
-use Rattle.mn_node.specs.Machine.{Machine, Event, Answer, stopped, is_down, fault, damaged, Life, unstarted, running, halted, faulted, starved, ruined}
+use Rattle.mn_node.specs.Effects.{Answer, stopped, is_down, fault, damaged}
+use Rattle.mn_node.specs.Machine.{Machine, Event, Life, unstarted, running, halted, faulted, starved, ruined}
 use Rattle.mn_node.specs.Machine as machines
 use Rattle.mn_node.specs.declared.node.Node.{Node}
 use Rattle.mn_node.specs.declared.node.State.{State}
@@ -43,35 +44,13 @@ whole_on answer mark (Err end) old_text new_text old_marks new_marks state told 
 -- a reply that is no damage
 pub not_damaged : (reply : Reply) → ((name : List ℕ) (at : ℕ) → reply ≡ replies.Damaged name at → ⊥) → (name : List ℕ) (at : ℕ)
     → answer reply ≡ damaged name at → ⊥
-not_damaged (replies.Started n) none name at is = cc
-not_damaged replies.Done none name at is = cc
-not_damaged (replies.Found records) none name at is = cc
-not_damaged replies.Synced none name at is = cc
-not_damaged replies.Stopped none name at is = cc
-not_damaged (replies.NoTable table) none name at is = cc
-not_damaged (replies.BadRecord item) none name at is = cc
-not_damaged (replies.Badarg place) none name at is = cc
-not_damaged replies.Down none name at is = cc
-not_damaged replies.Up none name at is = cc
-not_damaged replies.Memory none name at is = cc
-not_damaged (replies.Fault file) none name at is = cc
 not_damaged (replies.Damaged file place) none name at is = none file place refl
+not_damaged other none name at is = cc
 
 -- a reply that is not of a node that was down ends the run for want of memory where its mark found no room
 pub wants_reply : (reply : Reply) (new : Machine) → (reply ≡ replies.Down → ⊥) → EndsAs (answer reply) new status.Memory
-wants_reply (replies.Started n) new up = tt
-wants_reply replies.Done new up = tt
-wants_reply (replies.Found records) new up = tt
-wants_reply replies.Synced new up = tt
-wants_reply replies.Stopped new up = tt
-wants_reply (replies.NoTable table) new up = tt
-wants_reply (replies.BadRecord item) new up = tt
-wants_reply (replies.Badarg place) new up = tt
 wants_reply replies.Down new up = absurd (up refl)
-wants_reply replies.Up new up = tt
-wants_reply replies.Memory new up = tt
-wants_reply (replies.Fault file) new up = tt
-wants_reply (replies.Damaged file place) new up = tt
+wants_reply other new up = tt
 
 module _ (given : Answer) (mark : Mark) (old_text new_text : List ℕ) (old_marks new_marks : List Mark) (sound : (name : List ℕ) (at : ℕ)
     → given ≡ damaged name at → ⊥) (all : new_text ≡ old_text ++ text_of given) where

@@ -1,8 +1,9 @@
 -- What the next line asks for, and what was printed before it was read.
 use Rattle.std.specs.Prelude.{◌≡◌, ℕ, ◌+◌, ◌≤◌, ◌⊎◌, ◌++◌, List, [], ◌∷◌, Some, None, Result, Ok, Err, IsErrOf}
 use Rattle.file_trait.specs.Counts.{Rose}
+use Rattle.mn_run.specs.Commands.{Request, IsEventOf}
 use Rattle.mn_run.specs.Script.{Plan, behind}
-use Rattle.mn_run.specs.Seen.{event}
+use Rattle.mn_run.specs.Seen.{event, IsAskableLine}
 use Rattle.mn_run.specs.declared.asks.Ask.{Ask}
 use Rattle.mn_run.specs.declared.asks.Ask.TheVariants as ask
 use Rattle.mn_run.specs.declared.lines.LineErr.{LineErr}
@@ -14,9 +15,14 @@ use Rattle.mn_run.specs.declared.outcome.Status.TheVariants as status
 abbrev pub Asks : Result Ask Status → Plan → Plan → Type 0
 Asks (Ok ask.End) old new = old ≡ record { commands = []; over = None }
 Asks (Ok ask.Blank) old new = old ≡ new
-Asks (Ok (ask.Do line)) old new = old ≡ behind (event line ∷ []) new
+Asks (Ok (ask.Do line)) old new = (r : Request) × IsEventOf r (event line) × (old ≡ behind (r ∷ []) new)
 Asks (Err (status.TooLong n)) old new = old ≡ record { commands = []; over = Some n }
 Asks (Err other) old new = Unit {0}
+
+-- the node may be asked what is asked for
+abbrev pub IsAskableAsk : Ask → Type 0
+IsAskableAsk (ask.Do line) = IsAskableLine line
+IsAskableAsk other = Unit {0}
 
 -- a line was taken, but at the end
 abbrev pub Goes : Ask → ℕ → ℕ → ℕ → ℕ → Type 0

@@ -1,22 +1,58 @@
 -- What a line asks of the node.
-use Rattle.std.specs.Prelude.{List, ℕ, Option, Some, None}
+use Rattle.std.specs.Prelude.{◌≡◌, ℕ, List, [], ◌∷◌, Option, Some, None, Result, Ok, Err}
+use Rattle.term_core.specs.Tree.{Tree}
+use Rattle.db_model.specs.Definitions.{Definition}
+use Rattle.db_model.specs.Options.{IsDefinedBy, IsRefusal}
+use Rattle.db_model.specs.declared.error.DefErr.{DefErr}
+use Rattle.mn_node.specs.Effects as effects
 use Rattle.mn_node.specs.Machine.{Event}
 use Rattle.mn_node.specs.Machine as machine
-use Rattle.mn_script.specs.Commands.{Command, start, stop, sync_log, put, get, Asked, nothing, asks, refused, asked}
+use Rattle.mn_script.specs.Commands as script
+use Rattle.mn_script.specs.Commands.{Command, Asked, asked}
 
--- the event of a command
-abbrev pub event_of_command : Command → Event
-event_of_command start = machine.start
-event_of_command stop = machine.command machine.stop
-event_of_command sync_log = machine.command machine.sync_log
-event_of_command (put table item) = machine.command (machine.put table item)
-event_of_command (get table key) = machine.command (machine.get table key)
+-- what a script asks, by its lines and by its end
+pub data Request : Type 0 where
+  asks : (c : Command) → Request
+  -- a line that is no command, from this byte on
+  refused : (at : ℕ) → Request
+  ends : Request
 
-abbrev pub event_asked : Asked → Option Event
-event_asked nothing = None
-event_asked (asks command) = Some (event_of_command command)
-event_asked (refused at) = Some (machine.refused at)
+abbrev pub request_asked : Asked → Option Request
+request_asked script.nothing = None
+request_asked (script.asks command) = Some (asks command)
+request_asked (script.refused at) = Some (refused at)
 
--- the event that a line asks for, where it asks for one
-abbrev pub event_of : List ℕ → Option Event
-event_of line = event_asked (asked line)
+-- the request of a line, where it makes one
+abbrev pub request_of : List ℕ → Option Request
+request_of line = request_asked (asked line)
+
+-- What a list of options reads as: the table of this name that it defines, with cookie 0, or why it defines none.
+abbrev pub IsRead : List ℕ → Tree → Result Definition DefErr → Type 0
+IsRead name options (Ok definition) =
+    (definition.name ≡ name) × (definition.cookie ≡ 0) × IsDefinedBy options definition
+IsRead name options (Err error) = IsRefusal name options error
+
+-- The event is the command's. A list of options is read before, and memory may be wanting then.
+abbrev pub IsAskedAs : Command → Event → Type 0
+IsAskedAs script.start event = event ≡ machine.start
+IsAskedAs script.stop event = event ≡ machine.command effects.stop
+IsAskedAs script.sync_log event = event ≡ machine.command effects.sync_log
+IsAskedAs (script.put table item) event = event ≡ machine.command (effects.put table item)
+IsAskedAs (script.get table key) event = event ≡ machine.command (effects.get table key)
+IsAskedAs (script.create_table name options) event =
+    (read : Result Definition DefErr) × IsRead name options read
+    × (event ≡ machine.command (effects.create_table name read))
+IsAskedAs (script.delete_table name) event = event ≡ machine.command (effects.delete_table name)
+IsAskedAs script.tables event = event ≡ machine.command effects.tables
+IsAskedAs (script.table_info name) event = event ≡ machine.command (effects.table_info name)
+
+abbrev pub IsEventOf : Request → Event → Type 0
+IsEventOf (asks command) event = IsAskedAs command event
+IsEventOf (refused at) event = event ≡ machine.refused at
+IsEventOf ends event = event ≡ machine.end
+
+-- these events, one for each request
+abbrev pub AreEventsOf : List Request → List Event → Type 0
+AreEventsOf [] [] = Unit {0}
+AreEventsOf (request ∷ requests) (event ∷ events) = IsEventOf request event × AreEventsOf requests events
+AreEventsOf requests events = ⊥

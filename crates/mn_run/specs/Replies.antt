@@ -3,7 +3,7 @@ use Rattle.std.specs.Prelude.{ℕ, pos, List, [], ◌∷◌, ◌++◌, codes, Op
 use Rattle.term_core.specs.Tree.{Tree, int, atom, tuple, list, no_trees, tree}
 use Rattle.term_core.specs.View.{trees_of}
 use Rattle.term_text.specs.Printing.{printed}
-use Rattle.mn_node.specs.Machine.{Answer, started, done, found, synced, stopped, no_table, bad_record, bad_line, silent, is_down, is_up, no_memory, fault, damaged}
+use Rattle.mn_node.specs.Effects.{Answer, started, done, found, synced, stopped, no_table, exists, bad_record, bad_name, bad_option, too_many_tables, too_many_versions, too_long, bad_line, silent, is_down, is_up, no_memory, fault, damaged}
 
 -- `{name,value}`
 abbrev pub tagged : List ℕ → Tree → Tree
@@ -13,23 +13,25 @@ tagged name value = tuple (tree (atom name) (tree value no_trees))
 abbrev pub file_error : List ℕ → Tree
 file_error name = tagged (codes "error") (tagged (codes "file") (atom name))
 
--- `{aborted,Reason}`
-abbrev pub aborted : Tree → Tree
-aborted reason = tagged (codes "aborted") reason
-
--- `{aborted,{no_exists,Name}}`
-abbrev pub missing : List ℕ → Tree
-missing name = aborted (tagged (codes "no_exists") (atom name))
+-- `{aborted,{Word,Value}}`
+abbrev pub refusal : List ℕ → Tree → Tree
+refusal word value = tagged (codes "aborted") (tagged word value)
 
 -- the term of an answer; a turn has none, and damage has none and ends the run
 abbrev pub reply_of : Answer → Option Tree
 reply_of (started n) = Some (tagged (codes "started") (int (pos n)))
 reply_of done = Some (tagged (codes "atomic") (atom (codes "ok")))
-reply_of (found records) = Some (list (trees_of records))
+reply_of (found terms) = Some (list (trees_of terms))
 reply_of synced = Some (atom (codes "ok"))
 reply_of stopped = Some (atom (codes "stopped"))
-reply_of (no_table name) = Some (missing name)
-reply_of (bad_record item) = Some (aborted (tagged (codes "bad_type") item))
+reply_of (no_table name) = Some (refusal (codes "no_exists") (atom name))
+reply_of (exists name) = Some (refusal (codes "already_exists") (atom name))
+reply_of (bad_record item) = Some (refusal (codes "bad_type") item)
+reply_of (bad_name name) = Some (refusal (codes "bad_name") (atom name))
+reply_of (bad_option place) = Some (refusal (codes "bad_option") (int (pos place)))
+reply_of too_many_tables = Some (refusal (codes "limit") (atom (codes "tables")))
+reply_of too_many_versions = Some (refusal (codes "limit") (atom (codes "versions")))
+reply_of too_long = Some (refusal (codes "limit") (atom (codes "commit")))
 reply_of (bad_line at) = Some (tagged (codes "badarg") (int (pos at)))
 reply_of silent = None
 reply_of is_down = Some (tagged (codes "error") (atom (codes "down")))

@@ -7,17 +7,28 @@ use Rattle.file_trait.specs.DiskModel.{Past, clock, reads, Crashes}
 use Rattle.file_trait.specs.Moments.{Moments}
 use Rattle.file_trait.specs.Touched.{Touches}
 use Rattle.disk_logs.specs.Crash.{IsSound}
+use Rattle.db_model.specs.Lawful as databases
 use Rattle.txn_log.specs.Logs.{IsLogName}
 use Rattle.mn_node.specs.Shown.{StaysSound}
-use Rattle.mn_node.specs.Machine.{Event, Answer, fault, damaged, is_down, Machine, unstarted_machine, halted, faulted, ruined, IsAlive, Step, Holds, HoldsClosed, Leaves, added}
+use Rattle.mn_node.specs.Effects.{Answer, fault, damaged, is_down}
+use Rattle.mn_node.specs.Machine.{Event, Machine, IsLawfulMachine, unstarted_machine, halted, faulted, ruined, IsAlive, Step, Holds, HoldsClosed, Leaves, added}
 use Rattle.mn_node.specs.Machine as machine
-use Rattle.mn_node.specs.Meaning.{Files, latest, Meaning, stands, broken}
+use Rattle.mn_node.specs.Meaning.{Files, latest, Meaning, Means, stands, broken}
 use Rattle.mn_run.specs.Replies.{text_of}
-use Rattle.mn_run.specs.Script.{plan_of, events_of_plan}
+use Rattle.mn_run.specs.Commands.{Request, AreEventsOf}
+use Rattle.mn_run.specs.Script.{plan_of, requests_of_plan}
 use Rattle.mn_run.specs.declared.outcome.Mark.{Mark}
 use Rattle.mn_run.specs.declared.outcome.Status.{Status}
 use Rattle.mn_run.specs.declared.outcome.Status.TheVariants as status
 use Rattle.mn_run.specs.declared.session.TheConstants.{MOST_GATHERED}
+
+-- ---- what a run asks of its directory
+
+-- Where the log of a directory with a meaning is closed, a crash is to leave all of it. And no table of its database
+-- was made later than the database's version.
+abbrev pub IsTrusted : Meaning → Past → Type 0
+IsTrusted (stands w) past = IsSound past latest × databases.IsSound w.database
+IsTrusted (broken name at) past = Unit {0}
 
 -- ---- acts
 
@@ -35,14 +46,15 @@ pub record Act : Type 0 where
 
 -- The act is a step of the machine. At each moment of it a crash leaves what is said of the machine before it and the
 -- entries that it adds, and behind it what is said of the machine then, and a closed log may be trusted as before.
--- Behind it the files read as the machine then says. No files but those of the log are touched. A fault is answered
--- exactly where the disk's count rose.
+-- Behind it the files read as the machine then says, and each entry of the machine was lawful when it was done. No
+-- files but those of the log are touched. A fault is answered exactly where the disk's count rose.
 pub record Follows (first : Past) (old : World) (act : Act) : Type 0 where
   pub step : Step old.machine act.event act.answer act.after.machine
   pub during :
       Moments (Crashes (Leaves first old.machine (added old.machine act.event act.answer))) old.past act.after.past
   pub behind : Crashes (Leaves first act.after.machine []) act.after.past
   pub held : Holds (reads act.after.past) act.after.machine
+  pub lawful : IsLawfulMachine act.after.machine
   pub sound : StaysSound old.past act.after.past
   pub touches : Touches IsLogName old.past act.after.past
   pub later : old.faults ≤ act.after.faults
@@ -153,8 +165,8 @@ EndsAt status.WriteFault unmarked files last = Unit {0}
 EndsAt status.Memory unmarked files last = Unit {0}
 EndsAt status.Usage unmarked files last = ⊥
 
--- what it says of the events that did not come, and of a line over a limit
-abbrev pub EndsScript : Status → List Event → Option ℕ → Type 0
+-- what it says of the requests that no event came of, and of a line over a limit
+abbrev pub EndsScript : Status → List Request → Option ℕ → Type 0
 EndsScript status.Done later over = (later ≡ []) × (over ≡ None)
 EndsScript status.DiskFault later over = (later ≡ []) × (over ≡ None)
 EndsScript (status.TooLong n) later over = (later ≡ []) × (over ≡ Some n)
@@ -166,8 +178,8 @@ EndsPrinted status.WriteFault unprinted = Unit {0}
 EndsPrinted status.Memory unprinted = Unit {0}
 EndsPrinted other unprinted = unprinted ≡ []
 
--- What is so of the last act of a run that memory ended. At the script's end the mark of it found no room, or the machine
--- was down already, and neither stopped nor for a fault.
+-- What is so of the last act of a run that memory ended. At the script's end the mark of it found no room, or the
+-- machine was down already, and neither stopped nor for a fault.
 abbrev pub WantsAt : Type 0 → Event → Answer → Machine → Type 0
 WantsAt AllMarked machine.end is_down last = (last.life ≡ halted → ⊥) × (last.life ≡ faulted → ⊥)
 WantsAt AllMarked machine.end answer last = AllMarked → ⊥
@@ -178,7 +190,7 @@ HasWanted acts marks = IfLast (λ act. WantsAt (marks_of acts ≡ marks) act.eve
 
 -- The machine went through these acts, and all marks were taken but at most the last. Behind them the files read as it
 -- says, and at each moment a crash leaves what it says. A closed log may be trusted at each moment, where it could be
--- at first. Nothing is done to a directory without a meaning.
+-- at first, and behind them the directory is as a run asks. Nothing is done to a directory without a meaning.
 pub record Acted (end : Status) (old : World) (acts : List Act) (now : Past) (faults_now : ℕ) (marks : List Mark)
     : Type 0 where
   pub unmarked : List Mark
@@ -191,12 +203,15 @@ pub record Acted (end : Status) (old : World) (acts : List Act) (now : Past) (fa
   pub kept : (name : List ℕ) (at : ℕ) → (last_of old acts).machine.base ≡ broken name at → now ≡ old.past
   pub crash : Moments (λ past. Crashes (CrashLeaves old.past (clock past) old acts) past) old.past now
   pub sound : StaysSound old.past now
+  pub trusted : (meaning : Meaning) → Means (reads now) meaning → IsTrusted meaning now
   pub ends : EndsAt end unmarked (reads now) (last_of old acts).machine
 
--- what the script asks for are the events of these acts, and later ones that did not come
+-- the acts are of what the script asks for, and of later requests no event came
 pub record IsAsked (end : Status) (script : List ℕ) (acts : List Act) : Type 0 where
-  pub later : List Event
-  pub read : events_of_plan (plan_of script) ≡ events_of acts ++ later
+  pub asked : List Request
+  pub later : List Request
+  pub read : requests_of_plan (plan_of script) ≡ asked ++ later
+  pub are : AreEventsOf asked (events_of acts)
   pub ends : EndsScript end later (plan_of script).over
 
 -- The lines of these acts were printed from the first on, and some at the end are gathered yet or were given up: of
@@ -212,8 +227,9 @@ pub record ArePrinted (end : Status) (acts : List Act) (old_out new_out gathered
 -- There is one run of the machine, over a start, the commands of the script's lines and the script's end, or the first
 -- of these. Its replies were printed and its marks taken, or the first of them. The directory holds the run's entries,
 -- and at each moment a crash leaves a prefix of them with all that the last mark before that moment counts as durable,
--- and a closed log may be trusted: so a later run finds the directory as `run` asks, also where this one was killed at
--- some moment. What is said of the script holds where the source tells its bytes, of the replies where the sink does.
+-- a closed log may be trusted, and each entry was lawful when it was done: so a later run finds the directory as `run`
+-- asks, also where this one was killed at some moment. What is said of the script holds where the source tells its
+-- bytes, of the replies where the sink does.
 pub record Ran (script_told sink_told : Bool) (script : List ℕ) (end : Status) (old : World) (now : Past)
     (faults_now : ℕ) (old_out new_out : List ℕ) (marks : List Mark) : Type 0 where
   pub acts : List Act
@@ -221,11 +237,6 @@ pub record Ran (script_told sink_told : Bool) (script : List ℕ) (end : Status)
   pub asked : IsTrue script_told → IsAsked end script acts
   pub printed : IsTrue sink_told → ArePrinted end acts old_out new_out []
   pub wanted : end ≡ status.Memory → HasWanted acts marks
-
--- where the log of a directory with a meaning is closed, a crash is to leave all of it
-abbrev pub IsTrusted : Meaning → Past → Type 0
-IsTrusted (stands w) past = IsSound past latest
-IsTrusted (broken name at) past = Unit {0}
 
 -- how a run ends whose directory has no meaning from this place on
 abbrev pub EndsDamaged : List ℕ → ℕ → Status → Type 0

@@ -4,7 +4,8 @@ use Rattle.file_trait.specs.Counts.{Rose}
 use Rattle.file_trait.specs.DiskModel.{Past, clock}
 use Rattle.file_trait.specs.Streams.{TookSome}
 use Rattle.mn_node.specs.Shown.{Steps}
-use Rattle.mn_node.specs.Machine.{Event, Answer, fault, damaged, stopped, is_down, Machine, halted, faulted}
+use Rattle.mn_node.specs.Effects.{Answer, fault, damaged, stopped, is_down}
+use Rattle.mn_node.specs.Machine.{Event, Machine, halted, faulted}
 use Rattle.mn_node.specs.Machine as machine
 use Rattle.mn_node.specs.declared.node.Node.{Node}
 use Rattle.mn_node.specs.declared.node.State.TheVariants.{Unstarted}

@@ -3,7 +3,7 @@
 ghost use Rattle.std.specs.Prelude.{◌≡◌, ◌⊎◌, ◌≤◌, ◌+◌, ◌++◌, [], ◌∷◌, length, Ok, IsTrue, IfOk, IfErr};
 ghost use Rattle.mn_run.specs.Lines.{lines_of};
 ghost use Rattle.mn_run.specs.Script.{plan_from};
-ghost use Rattle.mn_run.specs.Asks.{Asks, Goes, Flushes, IsKeptOrGone, Causes, IsOfReading};
+ghost use Rattle.mn_run.specs.Asks.{Asks, IsAskableAsk, Goes, Flushes, IsKeptOrGone, Causes, IsOfReading};
 
 use crate::Status;
 use crate::commands::{Line, read_line};
@@ -50,6 +50,7 @@ pub fn next_ask<S: Source, K: Sink>(
     ensures asks { IsTrue S.tells → Asks result
         (plan_from place.old.lines place.old.commands (lines_of (lines.old ++ S.left script.old)))
         (plan_from place.new.lines place.new.commands (lines_of (lines.new ++ S.left script.new))) }
+    ensures askable { IfOk result IsAskableAsk }
     ensures cause { Causes Status.ReadFault (S.faults script.old) (S.faults script.new) result }
     ensures printed { IsTrue K.tells
         → Flushes result text.old.items text.new.items (K.written out.old) (K.written out.new) }
@@ -81,6 +82,7 @@ fn ask_of(alloc: Global, line: &[u8], place: &mut Place) -> Result<Ask, Status>
     ensures asks { (later : _) → Asks result
         (plan_from place.old.lines place.old.commands (line.now ∷ later))
         (plan_from place.new.lines place.new.commands later) }
+    ensures askable { IfOk result IsAskableAsk }
     ensures only { IfErr result IsOfReading }
     ensures read { result ≡ Err Status.ReadFault → ⊥ }
     ensures write { result ≡ Err Status.WriteFault → ⊥ }

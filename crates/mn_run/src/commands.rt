@@ -1,14 +1,17 @@
 //! Lines as events of the machine.
 
-ghost use Rattle.std.specs.Prelude.{◌≡◌, IfOk, OnErr, option_map};
+ghost use Rattle.std.specs.Prelude.{IfOk, OnErr};
+ghost use Rattle.term_core.specs.View.{tree_of};
 ghost use Rattle.mn_script.specs.Commands as script;
 ghost use Rattle.mn_script.specs.Grammar.{HasArgument};
-ghost use Rattle.mn_run.specs.Commands as lines;
-ghost use Rattle.mn_run.specs.Seen.{event};
+ghost use Rattle.mn_run.specs.Commands.{request_of, IsAskedAs};
+ghost use Rattle.mn_run.specs.Seen.{event, IsAskableLine, IsReadAs};
 
+use db_model::parse_options;
 use mn_node::Command;
 use mn_script::{LineErr, read_command};
 use std::alloc::{AllocError, Global};
+use term_core::{Atom, Term};
 
 /// What a line asks.
 #[derive(Drop)]
@@ -21,13 +24,13 @@ pub enum Line {
 }
 
 /// What a line asks, which comes without its line break. A line of blanks and a comment ask nothing. Memory is taken
-/// only where an argument is due.
+/// only where an argument is due, and where it is wanting for a table's options the node answers that.
 pub fn read_line(alloc: Global, line: &[u8]) -> Result<Option<Line>, AllocError>
-    ensures event { IfOk result (λ asked. option_map event asked ≡ lines.event_of line.now) }
+    ensures event { IfOk result (IsReadAs (request_of line.now)) }
     ensures memory { OnErr result (HasArgument script.forms line.now) }
 {
     match read_command(alloc, line) {
-        Ok(Some(command)) => Ok(Some(line_of(command))),
+        Ok(Some(command)) => Ok(Some(line_of(alloc, command))),
         Ok(None) => Ok(None),
         Err(LineErr::Badarg(at)) => Ok(Some(Line::Refused(at))),
         Err(LineErr::Memory) => Err(AllocError),
@@ -35,8 +38,9 @@ pub fn read_line(alloc: Global, line: &[u8]) -> Result<Option<Line>, AllocError>
 }
 
 /// What a command of the script asks of the node.
-fn line_of(command: mn_script::Command) -> Line
-    ensures { event result ≡ lines.event_of_command (script.seen command) }
+fn line_of(alloc: Global, command: mn_script::Command) -> Line
+    ensures event { IsAskedAs (script.seen command) (event result) }
+    ensures askable { IsAskableLine result }
 {
     match command {
         mn_script::Command::Start => Line::Start,
@@ -44,5 +48,18 @@ fn line_of(command: mn_script::Command) -> Line
         mn_script::Command::SyncLog => Line::Do(Command::SyncLog),
         mn_script::Command::Put(table, record) => Line::Do(Command::Put(table, record)),
         mn_script::Command::Get(table, key) => Line::Do(Command::Get(table, key)),
+        mn_script::Command::CreateTable(name, options) => creation(alloc, name, &options),
+        mn_script::Command::DeleteTable(name) => Line::Do(Command::DeleteTable(name)),
+        mn_script::Command::Tables => Line::Do(Command::Tables),
+        mn_script::Command::TableInfo(name) => Line::Do(Command::TableInfo(name)),
     }
+}
+
+/// To make a table of this name with these options.
+fn creation(alloc: Global, name: Atom, options: &Term) -> Line
+    ensures event { IsAskedAs (script.create_table name (tree_of options.now)) (event result) }
+    ensures askable { IsAskableLine result }
+{
+    let read = parse_options(alloc, &name, options);
+    Line::Do(Command::CreateTable(name, read))
 }

@@ -7,6 +7,7 @@ ghost use Rattle.mn_run.specs.Reading.{has_no_end, EndsAt, Added, Grows, Refills
 use crate::Status;
 use crate::gathered::flush;
 use file_trait::{Sink, Source, SrcErr};
+use memchr::memchr;
 use std::alloc::Global;
 use std::marker::Model;
 
@@ -49,15 +50,11 @@ impl Model for Lines {
     ghost invariant = { λ l. (l.from ≤ l.to) × (l.to ≤ length l.piece) × (l.to ≤ PIECE) };
 }
 
+/// Where the first line ends.
 fn end_of(bytes: &[u8]) -> Option<usize>
     ensures { MatchOption result (has_no_end bytes.now ≡ true) (λ n. EndsAt bytes.now n) }
 {
-    for (i, byte) in bytes.iter().enumerate() {
-        if *byte == b'\n' {
-            return Some(i);
-        }
-    }
-    None
+    memchr(b'\n', bytes)
 }
 
 impl Lines {

@@ -5,9 +5,8 @@ ghost use Rattle.file_trait.specs.Counts.{Rose};
 ghost use Rattle.file_trait.specs.DiskModel.{reads};
 ghost use Rattle.file_trait.specs.Touched.{Touches};
 ghost use Rattle.txn_log.specs.Logs.{IsLogName};
-ghost use Rattle.disk_logs.specs.Crash.{IsSound};
 ghost use Rattle.mn_node.specs.Durable.{Durable};
-ghost use Rattle.mn_node.specs.Meaning.{Meaning, Means, IsBroken, latest, stands};
+ghost use Rattle.mn_node.specs.Meaning.{Meaning, Means, IsBroken, stands};
 ghost use Rattle.mn_run.specs.Asks.{Flushes, IsKeptOrGone, Causes, IsOfFlushing};
 ghost use Rattle.mn_run.specs.Runs.{Ran, IsTrusted, EndsDamaged, unbegun, expected};
 ghost use Rattle.mn_run.specs.Script.{plan_of};
@@ -22,7 +21,6 @@ use crate::outcome::{Outcome, Status};
 use crate::session::{MOST_GATHERED, Session};
 use crate::words::has_form;
 use file_trait::{Disk, Sink, Source};
-use mn_node::directory_law;
 use std::alloc::Global;
 
 /// Starts a node on the disk, answers the commands of the script to its end, and stops the node. Replies are gathered,
@@ -34,7 +32,8 @@ use std::alloc::Global;
 /// written are the machine's.
 ///
 /// Where the log of the directory is closed, a crash is to leave all of it: so it is where the directory was handed
-/// over durable. `run` keeps this at each of its moments, so that a later run finds it again.
+/// over durable. And no table of the directory's database was made later than the database's version. `run` keeps the
+/// first at each of its moments, and the second by each commit, so that a later run finds both again.
 pub fn run<D: Disk, S: Source, K: Sink>(
     alloc: Global,
     words: &[String],
@@ -57,7 +56,9 @@ pub fn run<D: Disk, S: Source, K: Sink>(
 
     // Damaged comes exactly where the directory has no meaning, with the place, unless the disk failed, memory was
     // wanting or another status ended the run before. Nothing is done to such a directory.
-    ensures damaged { IsTrue D.tells → IsSound (D.past disk.old) latest → (name : List ℕ) (at : ℕ)
+    ensures damaged { IsTrue D.tells
+        → (meaning : Meaning) → Means (reads (D.past disk.old)) meaning → IsTrusted meaning (D.past disk.old)
+        → (name : List ℕ) (at : ℕ)
         → result.status ≡ Status.Damaged name at → IsBroken (reads (D.past disk.old)) name at }
     ensures meaning { IsTrue D.tells → HasForm (map string_bytes words.now) → (name : List ℕ) (at : ℕ)
         → IsBroken (reads (D.past disk.old)) name at → EndsDamaged name at result.status }
@@ -74,13 +75,11 @@ pub fn run<D: Disk, S: Source, K: Sink>(
     // With words of the form, no fault and a directory with a meaning the script was read to its end or to the first
     // line over a limit, and all was answered, or want of memory ended the run.
     ensures complete { IsTrue D.tells → IsTrue S.tells → HasForm (map string_bytes words.now)
-        → IsSound (D.past disk.old) latest → (w : Durable) → Means (reads (D.past disk.old)) (stands w)
+        → (w : Durable) → Means (reads (D.past disk.old)) (stands w) → IsTrusted (stands w) (D.past disk.old)
         → ¬ Rose (S.faults script.old) (S.faults script.new) → ¬ Rose (K.faults out.old) (K.faults out.new)
         → ¬ Rose (D.faults disk.old) (D.faults disk.new)
         → (result.status ≡ expected (plan_of (S.left script.old)).over) ⊎ (result.status ≡ Status.Memory) }
 {
-    // By this law a directory has one meaning.
-    directory_law();
     let mut session = Session::new(alloc);
     if !has_form(words) {
         return Outcome {

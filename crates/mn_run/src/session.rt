@@ -59,6 +59,7 @@ impl Session {
         requires whole { IsWhole self.old.node.state }
         requires log { IsTrue D.tells → HasLogOf self.old.node.state (D.past disk.old) }
         requires few { (n : ℕ) × (n < 2 ^ 62) × IsFew self.old.node n }
+        requires asked { seen.IsAskableLine line }
         ensures served { IsTrue D.tells
             → (first : Past) (machine : Machine) → Shows first self.old.node (D.past disk.old) machine
             → Served first (record { machine = machine; past = D.past disk.old; faults = D.faults disk.old })
@@ -138,6 +139,7 @@ fn answer<D: Disk>(node: &mut Node, alloc: Global, disk: &mut D, line: Line) -> 
     requires whole { IsWhole node.old.state }
     requires log { IsTrue D.tells → HasLogOf node.old.state (D.past disk.old) }
     requires few { (n : ℕ) × (n < 2 ^ 62) × IsFew node.old n }
+    requires asked { seen.IsAskableLine line }
     ensures steps { IsTrue D.tells → (first : Past) (old : Machine) → Shows first node.old (D.past disk.old) old
         → Steps first old (seen.event line) (answer_of result) node.old node.new (D.past disk.old)
         (D.past disk.new) }

@@ -1,6 +1,6 @@
 //! Terms that are made.
 
-ghost use Rattle.std.specs.Prelude.{◌≡◌, IfOk};
+ghost use Rattle.std.specs.Prelude.{◌≡◌, pos, IfOk};
 ghost use Rattle.term_core.specs.Tree as trees;
 ghost use Rattle.term_core.specs.View.{tree_of};
 
@@ -25,6 +25,13 @@ pub fn named(alloc: Global, name: &Atom) -> Result<Term, AllocError>
         Ok(copy) => Ok(Term::Atom(copy)),
         Err(_) => Err(AllocError),
     }
+}
+
+/// The term of a count.
+pub fn number(count: u64) -> Term
+    ensures { tree_of result ≡ trees.int (pos count) }
+{
+    Term::Int(count as i128)
 }
 
 /// A term that equals this one.

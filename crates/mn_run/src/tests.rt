@@ -28,24 +28,34 @@ fn outcome(
 }
 
 const SESSION: &str =
-    "put t {t,1,a}\nsync_log\nput t {t,2,b}\nstop\n\nget t 1\nstart\nget t 1\nstart";
+    "create_table t []\nput t {t,1,a}\nsync_log\nput t {t,2,b}\nstop\n\nget t 1\nstart\nget t 1\nstart";
 
-const REPLIES: &str =
-    "{started,0}\n{atomic,ok}\nok\n{atomic,ok}\nstopped\n{error,down}\n{started,2}\n[{t,1,a}]\n{error,up}\n";
+const REPLIES: &str = "{started,0}
+{atomic,ok}
+{atomic,ok}
+ok
+{atomic,ok}
+stopped
+{error,down}
+{started,3}
+[{t,1,a}]
+{error,up}
+";
 
 // After the first start, each command and the end: the commands answered, the entries since the last start, and how
-// many of these are durable.
-const MARKS: [(u64, u64, u64); 10] = [
+// many of these are durable. A table that is made is durable when it is answered.
+const MARKS: [(u64, u64, u64); 11] = [
     (0, 0, 0),
-    (1, 1, 0),
-    (2, 1, 1),
-    (3, 2, 1),
-    (4, 2, 2),
-    (5, 2, 2),
-    (6, 0, 0),
+    (1, 1, 1),
+    (2, 2, 1),
+    (3, 2, 2),
+    (4, 3, 2),
+    (5, 3, 3),
+    (6, 3, 3),
     (7, 0, 0),
     (8, 0, 0),
-    (8, 0, 0),
+    (9, 0, 0),
+    (9, 0, 0),
 ];
 
 #[test]

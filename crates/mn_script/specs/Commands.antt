@@ -24,6 +24,10 @@ pub data Command : Type 0 where
   sync_log : Command
   put : (table : List ℕ) (item : Tree) → Command
   get : (table : List ℕ) (key : Tree) → Command
+  create_table : (name : List ℕ) (options : Tree) → Command
+  delete_table : (name : List ℕ) → Command
+  tables : Command
+  table_info : (name : List ℕ) → Command
 
 -- a command of the code
 abbrev pub seen : code.Command → Command
@@ -32,6 +36,10 @@ seen code_command.Stop = stop
 seen code_command.SyncLog = sync_log
 seen (code_command.Put table item) = put table (tree_of item)
 seen (code_command.Get table key) = get table (tree_of key)
+seen (code_command.CreateTable name options) = create_table name (tree_of options)
+seen (code_command.DeleteTable name) = delete_table name
+seen code_command.Tables = tables
+seen (code_command.TableInfo name) = table_info name
 
 -- ---- the table of forms
 
@@ -59,6 +67,10 @@ rows =
     ∷ row (codes "sync_log") [] sync_log
     ∷ row (codes "put") (Atom ∷ Term ∷ []) put
     ∷ row (codes "get") (Atom ∷ Term ∷ []) get
+    ∷ row (codes "create_table") (Atom ∷ Term ∷ []) create_table
+    ∷ row (codes "delete_table") (Atom ∷ []) delete_table
+    ∷ row (codes "tables") [] tables
+    ∷ row (codes "table_info") (Atom ∷ []) table_info
     ∷ []
 
 abbrev pub form_of : Row → Shape
@@ -71,10 +83,6 @@ forms = map form_of rows
 abbrev pub later : List (List ℕ)
 later =
     codes "dump_log"
-    ∷ codes "create_table"
-    ∷ codes "delete_table"
-    ∷ codes "tables"
-    ∷ codes "table_info"
     ∷ codes "add_table_index"
     ∷ codes "del_table_index"
     ∷ codes "transform_table"

@@ -20,6 +20,19 @@ pub fn no_argument(arguments: &Items<Term>) -> Option<()>
     Some(())
 }
 
+/// The atom, where it is the argument.
+pub fn one_atom(arguments: Items<Term>) -> Option<Atom>
+    ensures { (make : List ℕ → Command)
+        → option_map (λ a. make a) result ≡ made_of (kind.Atom ∷ []) make (map tree_of arguments) }
+{
+    let mut rest = arguments;
+    let atom = next_atom(&mut rest)?;
+    if !rest.is_empty() {
+        return None;
+    }
+    Some(atom)
+}
+
 /// The atom and the term, where they are the arguments.
 pub fn atom_and_term(arguments: Items<Term>) -> Option<(Atom, Term)>
     ensures { (make : List ℕ → Tree → Command)

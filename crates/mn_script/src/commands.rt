@@ -8,7 +8,7 @@ ghost use Rattle.mn_script.specs.Grammar.{HasArgument};
 ghost use Rattle.mn_script.specs.Commands as commands;
 ghost use Rattle.mn_script.specs.Commands.{Answers, Asked, IsMeant, asked, seen};
 
-use crate::arguments::{atom_and_term, no_argument};
+use crate::arguments::{atom_and_term, no_argument, one_atom};
 use crate::forms::{Form, Kind};
 use crate::reading::{LineErr, read_line};
 use sqlite_items::Items;
@@ -28,10 +28,18 @@ pub enum Command {
     Put(Atom, Term),
     /// The records of the table with this key.
     Get(Atom, Term),
+    /// To make a table of this name with these options.
+    CreateTable(Atom, Term),
+    /// To take the table away.
+    DeleteTable(Atom),
+    /// The names of the tables.
+    Tables,
+    /// The options of the table, and how many records it has.
+    TableInfo(Atom),
 }
 
 /// The forms of the commands, each with the number by which `command_of` knows it.
-const FORMS: [Form<'static>; 5] = [
+const FORMS: [Form<'static>; 9] = [
     Form {
         word: b"start",
         kinds: &[],
@@ -52,15 +60,27 @@ const FORMS: [Form<'static>; 5] = [
         word: b"get",
         kinds: &[Kind::Atom, Kind::Term],
     },
+    Form {
+        word: b"create_table",
+        kinds: &[Kind::Atom, Kind::Term],
+    },
+    Form {
+        word: b"delete_table",
+        kinds: &[Kind::Atom],
+    },
+    Form {
+        word: b"tables",
+        kinds: &[],
+    },
+    Form {
+        word: b"table_info",
+        kinds: &[Kind::Atom],
+    },
 ];
 
 /// The words of commands that are not here yet.
-const LATER: [&[u8]; 30] = [
+const LATER: [&[u8]; 26] = [
     b"dump_log",
-    b"create_table",
-    b"delete_table",
-    b"tables",
-    b"table_info",
     b"add_table_index",
     b"del_table_index",
     b"transform_table",
@@ -119,6 +139,10 @@ fn command_of(number: usize, arguments: Items<Term>) -> Option<Command>
         2 => no_argument(&arguments).map(|()| Command::SyncLog),
         3 => atom_and_term(arguments).map(|(table, record)| Command::Put(table, record)),
         4 => atom_and_term(arguments).map(|(table, key)| Command::Get(table, key)),
+        5 => atom_and_term(arguments).map(|(name, options)| Command::CreateTable(name, options)),
+        6 => one_atom(arguments).map(Command::DeleteTable),
+        7 => no_argument(&arguments).map(|()| Command::Tables),
+        8 => one_atom(arguments).map(Command::TableInfo),
         _ => None,
     }
 }

@@ -1,5 +1,6 @@
 -- What the commands on whole tables make of a database, and where they are refused.
-use Rattle.std.specs.Prelude.{◌≡◌, ℕ, ◌+◌, ◌<◌, ◌≤◌, ◌^◌, not, List, length, filter, IsSome, IsNone}
+use Rattle.std.specs.Prelude.{◌≡◌, ℕ, ◌+◌, ◌<◌, ◌≤◌, ◌^◌, not, List, [], ◌∷◌, length, filter, IsSome, IsNone}
+use Rattle.db_model.specs.Commits.{SchemaOperation, create, drop_table, CommitRecord}
 use Rattle.db_model.specs.Database.{Database, is_called, with_table, empty_table}
 use Rattle.db_model.specs.Definitions.{Definition}
 use Rattle.db_model.specs.Lawful.{table_in}
@@ -8,6 +9,17 @@ use Rattle.schema_txn.specs.declared.error.SchemaErr.TheVariants.{Exists, NoTabl
 
 abbrev pub with_cookie : ℕ → Definition → Definition
 with_cookie cookie definition = record definition { cookie = cookie }
+
+-- the next version's commit, which does this alone
+abbrev pub schema_commit : SchemaOperation → Database → CommitRecord
+schema_commit op database = record { version = database.version + 1; schema_operations = op ∷ []; operations = [] }
+
+-- the table is made with the next version as its cookie
+abbrev pub create_commit : Definition → Database → CommitRecord
+create_commit definition database = schema_commit (create (with_cookie (database.version + 1) definition)) database
+
+abbrev pub delete_commit : List ℕ → Database → CommitRecord
+delete_commit name database = schema_commit (drop_table name) database
 
 -- the table stands at its place, without records, and the next version is its cookie
 abbrev pub created : Definition → Database → Database

@@ -6,7 +6,7 @@ ghost use Rattle.db_model.specs.Definitions.{IsDefinition};
 ghost use Rattle.db_model.specs.Lawful.{IsLawful};
 ghost use Rattle.db_model.specs.View.{definition, commit_record};
 ghost use Rattle.db_state.specs.Live.{database};
-ghost use Rattle.schema_txn.specs.Commands.{with_cookie, created, deleted, RefusesCreate, RefusesDelete};
+ghost use Rattle.schema_txn.specs.Commands.{with_cookie, create_commit, delete_commit, created, deleted, RefusesCreate, RefusesDelete};
 ghost use Rattle.schema_txn.specs.declared.error.SchemaErr.TheVariants as refusals;
 
 use crate::error::SchemaErr;
@@ -24,6 +24,8 @@ const MOST_TABLES: usize = 1000;
 pub fn create_table(alloc: Global, live: &Live, def: &TableDef) -> Result<Commit, SchemaErr>
     requires { IsDefinition (with_cookie 0 (definition def.now)) }
     ensures lawful { IfOk result (λ commit. IsLawful (commit_record commit) (database live.now)) }
+    ensures commit { IfOk result (λ commit.
+        commit_record commit ≡ create_commit (definition def.now) (database live.now)) }
     ensures does { IfOk result (λ commit. do_commit (commit_record commit) (database live.now)
         ≡ created (definition def.now) (database live.now)) }
     ensures refused { IfErr result (λ error. RefusesCreate error (definition def.now) (database live.now)) }
@@ -44,6 +46,7 @@ pub fn create_table(alloc: Global, live: &Live, def: &TableDef) -> Result<Commit
 /// version, in this order.
 pub fn delete_table(alloc: Global, live: &Live, name: &Atom) -> Result<Commit, SchemaErr>
     ensures lawful { IfOk result (λ commit. IsLawful (commit_record commit) (database live.now)) }
+    ensures commit { IfOk result (λ commit. commit_record commit ≡ delete_commit name.now (database live.now)) }
     ensures does { IfOk result (λ commit. do_commit (commit_record commit) (database live.now)
         ≡ deleted name.now (database live.now)) }
     ensures refused { IfErr result (λ error. RefusesDelete error name.now (database live.now)) }

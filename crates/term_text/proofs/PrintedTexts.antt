@@ -16,7 +16,7 @@ use Rattle.term_text.specs.Grammar as grammar
 use Rattle.term_core.specs.Kept.{IsKept, AreKept}
 use Rattle.term_text.specs.Places.{read}
 use Rattle.term_text.specs.Printing.{character_text, numbered, is_reserved, atom_text, bytes_text, more_bytes_text, printed, trees_text, more_trees_text}
-use Rattle.term_text.proofs.Fronts.{length_chars_ascii, name_byte_low}
+use Rattle.term_text.proofs.Fronts.{length_chars_ascii, name_byte_low, ascii_is_utf8}
 use Rattle.term_text.proofs.Again.{name_all, stands_again}
 
 -- ---- characters
@@ -68,13 +68,20 @@ ascii_all p low [] all i = lit< tt
 ascii_all p low (b ∷ text) all zero = low b (and_parts _ _ all).0
 ascii_all p low (b ∷ text) all (suc i) = ascii_all p low text (and_parts _ _ all).1 i
 
+name_ascii : (a : List ℕ) → is_name a ≡ true → IsAscii a
+name_ascii a name = ascii_all is_name_byte name_byte_low a (name_all a name)
+
+-- a name is kept as an atom
+pub name_kept : (a : List ℕ) → is_name a ≡ true → length (chars a) ≤ 255 → IsKept (atom a)
+name_kept a name short = (ascii_is_utf8 a (name_ascii a name), short)
+
 atom_is : (a : List ℕ) → IsUtf8 a → length (chars a) ≤ 255 → IsAtom a (atom_text a)
 atom_is a utf8 short = by (is_name a && not (is_reserved a)) refl
   where
     by : (t : Bool) → (is_name a && not (is_reserved a)) ≡ t → IsAtom a (cond t a (39 ∷ (flat_map character_text (chars a) ++ 39 ∷ [])))
     by true h =
         let name = (and_parts _ _ h).0 in
-        let size = length_chars_ascii a (ascii_all is_name_byte name_byte_low a (name_all a name)) in
+        let size = length_chars_ascii a (name_ascii a name) in
         grammar.bare name (omega (arith, size, short)) refl
     by false h = grammar.quoted (chars a) (flat_map character_text (chars a), characters_are (chars a) (scalars-chars a utf8), refl) short (sym (encodes-chars a utf8))
 

@@ -17,13 +17,13 @@ use crate::error::TextErr;
 use crate::tokens::is_name_byte;
 use itoa::Buffer;
 use std::alloc::AllocError;
-use term_core::Term;
+use term_core::{Atom, Term};
 
 /// The words that Erlang keeps for itself.
-const RESERVED: [&str; 28] = [
-    "after", "and", "andalso", "band", "begin", "bnot", "bor", "bsl", "bsr", "bxor", "case",
-    "catch", "cond", "div", "end", "fun", "if", "let", "maybe", "not", "of", "or", "orelse",
-    "receive", "rem", "try", "when", "xor",
+const RESERVED: [&[u8]; 28] = [
+    b"after", b"and", b"andalso", b"band", b"begin", b"bnot", b"bor", b"bsl", b"bsr", b"bxor",
+    b"case", b"catch", b"cond", b"div", b"end", b"fun", b"if", b"let", b"maybe", b"not", b"of",
+    b"or", b"orelse", b"receive", b"rem", b"try", b"when", b"xor",
 ];
 
 /// Adds the text of a term at the end of `out`. An error leaves `out` as it was.
@@ -52,7 +52,7 @@ fn put(term: &Term, out: &mut Vec<u8>) -> Result<(), AllocError>
 {
     match term {
         Term::Int(number) => put_int(*number, out),
-        Term::Atom(name) => put_atom(name.text(), out),
+        Term::Atom(name) => put_atom(name, out),
         Term::Tuple(items) => put_within(b"{", items.as_slice(), b"}", out),
         Term::List(items) => put_within(b"[", items.as_slice(), b"]", out),
         Term::Bin(bytes) => put_binary(bytes.as_slice(), out),
@@ -130,15 +130,16 @@ fn put_bytes(bytes: &[u8], out: &mut Vec<u8>) -> Result<(), AllocError>
     Ok(())
 }
 
-fn put_atom(name: &str, out: &mut Vec<u8>) -> Result<(), AllocError>
-    requires { length (chars name.now) ≤ 255 }
+/// The bytes of a name are not tested for UTF-8 again.
+fn put_atom(name: &Atom, out: &mut Vec<u8>) -> Result<(), AllocError>
     ensures text { Appends result out.old.items out.new.items (text.atom_text name.now) }
     ensures kept { IsKept (atom name.now) }
 {
-    if is_name(name.as_bytes()) && !is_reserved(name) {
-        return out.extend_from_slice(name.as_bytes());
+    let bytes = name.as_bytes();
+    if is_name(bytes) && !is_reserved(bytes) {
+        return out.extend_from_slice(bytes);
     }
-    put_quoted(name, out)
+    put_quoted(name.text(), out)
 }
 
 fn put_quoted(name: &str, out: &mut Vec<u8>) -> Result<(), AllocError>
@@ -218,7 +219,7 @@ fn are_name_bytes(bytes: &[u8]) -> bool
     bytes.iter().all(|byte| is_name_byte(*byte))
 }
 
-fn is_reserved(name: &str) -> bool
+fn is_reserved(name: &[u8]) -> bool
     ensures { result ≡ text.is_reserved name.now }
 {
     RESERVED.contains(&name)

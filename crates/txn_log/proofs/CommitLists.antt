@@ -4,7 +4,7 @@ use Rattle.log_items.specs.Items.{HasItems}
 use Rattle.log_items.proofs.Unique.{one_list, file_not_bad}
 use Rattle.disk_logs.specs.Logs.{FileRead, IsRead}
 use Rattle.db_model.specs.Commits.{CommitRecord}
-use Rattle.txn_log.specs.Commits.{IsCommit, AreCommits, AreItemsOf}
+use Rattle.txn_log.specs.Commits.{IsLogged, IsCommit, AreCommits, AreItemsOf}
 use Rattle.txn_log.specs.Logs.{Reads, IsOther, IsWrongFrom, IsWrongAt, IsWrong}
 use Rattle.txn_log.proofs.CommitsRead.{same_content}
 
@@ -56,9 +56,9 @@ items_one_more commits (first ∷ contents) commit content h one = (h.0, commits
 abbrev pub AllowsFirst : (List CommitRecord → Type 0) → Type 0
 AllowsFirst Allowed = (commits more : List CommitRecord) → Allowed (commits ++ more) → Allowed commits
 
--- behind allowed commits it can be told whether one more is allowed
+-- behind allowed commits it can be told whether one more that a log may hold is allowed
 abbrev pub TellsNext : (List CommitRecord → Type 0) → Type 0
-TellsNext Allowed = (commits : List CommitRecord) (commit : CommitRecord) → Allowed commits
+TellsNext Allowed = (commits : List CommitRecord) (commit : CommitRecord) → Allowed commits → IsLogged commit
     → Allowed (commits ++ commit ∷ []) ⊎ (Allowed (commits ++ commit ∷ []) → ⊥)
 
 -- ---- commits or a wrong item

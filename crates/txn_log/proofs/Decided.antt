@@ -219,7 +219,7 @@ module _ (Allowed : List CommitRecord → Type 0) (told : TellsNext Allowed) whe
       ⊎ IsOther Allowed before content
   allowed_decided before allowed content = elim (commit_decided content) [
     | inr none ↦ inr (λ commit also is. none commit is)
-    | inl found ↦ elim (told before found.0 allowed) [
+    | inl found ↦ elim (told before found.0 allowed found.1.2.logged) [
       | inl also ↦ inl (found.0, also, found.1)
       | inr fails ↦ inr (λ commit also is.
           fails (subst (λ c. Allowed (before ++ c ∷ [])) (same_content content commit found.0 is found.1) also))

@@ -1,50 +1,47 @@
 -- What a start does.
 use Rattle.std.specs.Prelude.{◌≡◌, ℕ, List, slice_get, Some}
-use Rattle.term_core.specs.Tree.{Tree}
 use Rattle.db_model.specs.Commits.{CommitRecord}
-use Rattle.db_model.specs.Database.{records_of}
+use Rattle.db_model.specs.Database.{Database}
+use Rattle.db_model.specs.Taken.{CanTake, taken}
 use Rattle.txn_log.specs.Commits.{IsCommit, AreItemsOf}
 use Rattle.txn_log.specs.Logs.{Reads}
-use Rattle.mn_node.specs.Durable.{made, rows_of}
-use Rattle.mn_node.specs.Machine.{Answer, no_memory, fault, damaged}
-use Rattle.mn_node.specs.Meaning.{Files, latest}
-use Rattle.mn_node.specs.Puts.{IsRow, IsPut, ArePuts, put_of}
+use Rattle.mn_node.specs.Durable.{made}
+use Rattle.mn_node.specs.Effects.{Answer, no_memory, fault, damaged}
+use Rattle.mn_node.specs.Meaning.{Files, latest, AreTaken}
 use Rattle.mn_node.specs.declared.node.Node.{Node}
 use Rattle.mn_node.specs.declared.node.State.TheVariants.{Up, Faulted, Starved, Ruined}
 use Rattle.mn_node.specs.declared.open.Open.{Open}
 use Rattle.mn_node.specs.declared.starting.StartErr.{StartErr}
 use Rattle.mn_node.specs.declared.starting.StartErr.TheVariants as start
 
--- the items are a log's, and the table has the records of what its commits make
-pub record MakesTable (items : List (List ℕ)) (table : List Tree) : Type 0 where
+-- the items are a log's, and the database is what its commits make
+pub record Makes (items : List (List ℕ)) (database : Database) : Type 0 where
   pub commits : List CommitRecord
-  pub puts : ArePuts commits
+  pub taken : AreTaken commits
   pub are : AreItemsOf commits items
-  pub same : (key : Tree) → records_of key table ≡ records_of key (rows_of (made commits))
+  pub same : database ≡ (made commits).database
 
 -- the same of what a directory has
-pub record Loads (files : Files) (table : List Tree) : Type 0 where
+pub record Loads (files : Files) (database : Database) : Type 0 where
   pub commits : List CommitRecord
-  pub puts : ArePuts commits
+  pub taken : AreTaken commits
   pub reads : Reads commits (files latest)
-  pub same : (key : Tree) → records_of key table ≡ records_of key (rows_of (made commits))
+  pub same : database ≡ (made commits).database
 
--- item number n is a text of the commit that puts this record
-pub record HasPutAt (items : List (List ℕ)) (n : ℕ) (item : Tree) : Type 0 where
-  pub row : IsRow item
+-- item number n is a text of a commit that a start takes of the database before, which is then this one
+pub record TakesAt (items : List (List ℕ)) (n : ℕ) (before now : Database) : Type 0 where
   pub content : List ℕ
   pub found : slice_get items n ≡ Some content
-  pub is : IsCommit content (put_of item)
+  pub commit : CommitRecord
+  pub text : IsCommit content commit
+  pub can : CanTake commit before
+  pub is : now ≡ taken commit before
 
--- the content is a text of no commit that puts a record
-abbrev pub IsNoPut : List ℕ → Type 0
-IsNoPut content = (commit : CommitRecord) → IsPut commit → IsCommit content commit → ⊥
-
--- item number n is a text of no such commit
-pub record HasOtherAt (items : List (List ℕ)) (n : ℕ) : Type 0 where
+-- item number n is a text of no commit that a start can take there
+pub record CannotTakeAt (items : List (List ℕ)) (n : ℕ) (before : Database) : Type 0 where
   pub content : List ℕ
   pub found : slice_get items n ≡ Some content
-  pub other : IsNoPut content
+  pub none : (commit : CommitRecord) → IsCommit content commit → CanTake commit before → ⊥
 
 -- what a start fails with on a directory that has no meaning from this place on
 abbrev pub FailsBroken : ℕ → StartErr → Type 0

@@ -8,4 +8,4 @@ use Rattle.mn_node.proofs.starting.loaded.Goals as goal
 pub returns-in-Some-clause-damaged : goal.returns-in-Some-clause-damaged
 returns-in-Some-clause-damaged c files as_read name at is =
     let there = subst (λ (o : Option FileRead). IsAsRead o (files latest)) c.in-Some.is as_read in
-    items_broken files c.in-Some.file name at c.table_of.ensures.whole there (c.table_of.ensures.damaged name at is)
+    items_broken files c.in-Some.file name at c.database_of.ensures.whole there (c.database_of.ensures.damaged name at is)

@@ -7,4 +7,4 @@ use Rattle.mn_run.proofs.replies.put_all.Given as goal
 abbrev pub invariant-loop-i : goal.invariant-loop-i
 invariant-loop-i l =
     (front : List ℕ) × (l.out.items ≡ l.initial.out.items ++ front)
-    × (front ++ trees_text_from l.i (forest_of (drop l.i l.records)) ≡ trees_text (forest_of l.records))
+    × (front ++ trees_text_from l.i (forest_of (drop l.i l.terms)) ≡ trees_text (forest_of l.terms))

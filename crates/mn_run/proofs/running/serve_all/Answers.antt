@@ -4,15 +4,14 @@ use Rattle.file_trait.proofs.Touched.{then_touched}
 use Rattle.txn_log.specs.Logs.{IsLogName}
 use Rattle.mn_node.specs.Shown.{IsFew, IsFaulted}
 use Rattle.mn_node.specs.Machine.{unstarted_machine}
-use Rattle.mn_node.specs.Machine as machines
+use Rattle.mn_run.specs.Commands.{ends}
 use Rattle.mn_run.specs.Lines.{lines_of}
 use Rattle.mn_run.specs.Runs.{World, unbegun, last_of}
 use Rattle.mn_run.specs.Script.{plan_from}
-use Rattle.mn_run.specs.Seen.{event}
 use Rattle.mn_run.specs.declared.session.Session.{Session}
 use Rattle.mn_run.specs.declared.session.TheConstants.{MOST_GATHERED}
 use Rattle.mn_run.proofs.RunFronts.{Point, point, front_on}
-use Rattle.mn_run.proofs.RunLoop.{node_shows, less_of, new_few, new_down, down_more, SoFar, first_more, first_ends, blank_more, do_more, do_ends, read_ends, flush_ends, end_ends, at_event, do_is, end_is, is_do, is_blank, is_end, goes_do, goes_blank, goes_end, todo_of, counts_from, gave_err}
+use Rattle.mn_run.proofs.RunLoop.{node_shows, less_of, new_few, new_down, down_more, SoFar, first_more, first_ends, blank_more, do_more, do_ends, read_ends, flush_ends, end_ends, at_request, do_is, end_is, do_request, is_blank, is_end, goes_do, goes_blank, goes_end, todo_of, counts_from, gave_err}
 use Rattle.mn_run.proofs.running.serve_all.Goals as goal
 
 pub returns-in_err-serve-clause-gave : goal.returns-in_err-serve-clause-gave
@@ -99,7 +98,7 @@ returns-in-End-clause-gave g c told meaning means trusted =
     let read_out : List ℕ = g.K.Sink.written ask.out in
     let session : Session = record l.session { text = ask.text } in
     let f =
-    at_event g.S.Source.tells g.K.Sink.tells script old out plan l.place.commands now (machines.end ∷ []) None read_out ask.text.items
+    at_request g.S.Source.tells g.K.Sink.tells script old out plan l.place.commands now (ends ∷ []) None read_out ask.text.items
     (end_is g.S.Source.tells g.K.Sink.tells script old out plan
     (λ told_in. is_end asked.field-0 plan later c.in-End.is (asked.ensures.asks told_in))) (λ told_out. asked.ensures.printed told_out)
     (less_of l.session.text.items ask.text.items asked.ensures.gathered) s in
@@ -161,12 +160,12 @@ returns-in_err-flush_much-in-Do-clause-gave g c told meaning means trusted =
     let asked = c.in_ok-next_ask in
     let read_out : List ℕ = g.K.Sink.written ask.out in
     let line = c.in-Do.line in
+    let q = do_request g.S.Source.tells asked.field-0 line plan later c.in-Do.is (λ told_in. asked.ensures.asks told_in) in
     let at : Point = record now { out = read_out; text = ask.text.items } in
     let f =
-    at_event g.S.Source.tells g.K.Sink.tells script old out plan l.place.commands now
-    (event line ∷ todo_of later) later.over read_out ask.text.items
-    (do_is g.S.Source.tells g.K.Sink.tells script old out plan later line
-    (λ told_in. is_do asked.field-0 line plan later c.in-Do.is (asked.ensures.asks told_in)))
+    at_request g.S.Source.tells g.K.Sink.tells script old out plan l.place.commands now
+    (q.0 ∷ todo_of later) later.over read_out ask.text.items
+    (do_is g.S.Source.tells g.K.Sink.tells script old out plan later line q.0 q.1)
     (λ told_out. asked.ensures.printed told_out)
     (less_of l.session.text.items ask.text.items asked.ensures.gathered) s in
     let flushed : List ℕ = g.K.Sink.written c.flush_much.new.out in
@@ -174,7 +173,7 @@ returns-in_err-flush_much-in-Do-clause-gave g c told meaning means trusted =
     gave_err g.S.Source.tells g.K.Sink.tells script old out end c.from_residual-in_err-flush_much-in-Do.result
     (record now { out = flushed; text = c.flush_much.new.text.items }) (p.1 ∙ ap Err p.2)
     (flush_ends g.S.Source.tells g.K.Sink.tells script old out (counts_from l.place.commands)
-    (event line ∷ todo_of later) later.over at flushed c.flush_much.new.text.items end f c.in_err-flush_much-in-Do.ensures.only
+    (q.0 ∷ todo_of later) later.over at flushed c.flush_much.new.text.items end f c.in_err-flush_much-in-Do.ensures.only
     (λ told_out. c.in_err-flush_much-in-Do.ensures.printed told_out))
 
 pub lines-preserved : goal.lines-preserved
@@ -199,27 +198,28 @@ lines-preserved g c =
           let s = l.invariant.so_far told meaning means trusted in
           let read_out : List ℕ = g.K.Sink.written ask.out in
           let line = c.in-Do.line in
+          let q = do_request g.S.Source.tells asked.field-0 line plan later c.in-Do.is (λ told_in. asked.ensures.asks told_in) in
           let at : Point = record now { out = read_out; text = ask.text.items } in
           let f =
-          at_event g.S.Source.tells g.K.Sink.tells script old out plan l.place.commands now
-          (event line ∷ todo_of later) later.over read_out ask.text.items
-          (do_is g.S.Source.tells g.K.Sink.tells script old out plan later line
-          (λ told_in. is_do asked.field-0 line plan later c.in-Do.is (asked.ensures.asks told_in)))
+          at_request g.S.Source.tells g.K.Sink.tells script old out plan l.place.commands now
+          (q.0 ∷ todo_of later) later.over read_out ask.text.items
+          (do_is g.S.Source.tells g.K.Sink.tells script old out plan later line q.0 q.1)
           (λ told_out. asked.ensures.printed told_out)
           (less_of l.session.text.items ask.text.items asked.ensures.gathered) s in
           let flushed : List ℕ = g.K.Sink.written c.flush_much.new.out in
           let here : Point = record now { out = flushed; text = c.flush_much.new.text.items } in
           let h =
           front_on g.S.Source.tells g.K.Sink.tells script old out (counts_from l.place.commands)
-          (event line ∷ todo_of later) later.over at flushed c.flush_much.new.text.items
+          (q.0 ∷ todo_of later) later.over at flushed c.flush_much.new.text.items
           (λ told_out. c.in_ok-flush_much-in-Do.ensures.printed told_out)
           (less_of ask.text.items c.flush_much.new.text.items c.in_ok-flush_much-in-Do.ensures.gathered) f in
           let following : ask.place.commands ≡ l.place.commands + 1 =
           goes_do asked.field-0 line l.place.lines ask.place.lines l.place.commands ask.place.commands c.in-Do.is asked.ensures.goes in
           let session : Session = record l.session { text = c.flush_much.new.text } in
           let few : length c.flush_much.new.text.items ≤ MOST_GATHERED = omega (arith, c.in_ok-flush_much-in-Do.ensures.few) in
-          do_more g.S.Source.tells g.K.Sink.tells script old out later l.place.commands ask.place.commands here line h following session
-          c.serve-in-Do.new.self (g.D.Disk.past c.serve-in-Do.new.disk) (g.D.Disk.faults c.serve-in-Do.new.disk) refl refl few
+          do_more g.S.Source.tells g.K.Sink.tells script old out plan later l.place.commands ask.place.commands here line q.0
+          q.1 h following session c.serve-in-Do.new.self (g.D.Disk.past c.serve-in-Do.new.disk)
+          (g.D.Disk.faults c.serve-in-Do.new.disk) refl refl few
           (served.served told past (last_of old s.acts).machine s.shows);
       whole = served.whole;
       log = served.log;
@@ -250,19 +250,19 @@ returns-in_err-serve-in-Do-clause-gave g c told meaning means trusted =
     let asked = c.in_ok-next_ask in
     let read_out : List ℕ = g.K.Sink.written ask.out in
     let line = c.in-Do.line in
+    let q = do_request g.S.Source.tells asked.field-0 line plan later c.in-Do.is (λ told_in. asked.ensures.asks told_in) in
     let at : Point = record now { out = read_out; text = ask.text.items } in
     let f =
-    at_event g.S.Source.tells g.K.Sink.tells script old out plan l.place.commands now
-    (event line ∷ todo_of later) later.over read_out ask.text.items
-    (do_is g.S.Source.tells g.K.Sink.tells script old out plan later line
-    (λ told_in. is_do asked.field-0 line plan later c.in-Do.is (asked.ensures.asks told_in)))
+    at_request g.S.Source.tells g.K.Sink.tells script old out plan l.place.commands now
+    (q.0 ∷ todo_of later) later.over read_out ask.text.items
+    (do_is g.S.Source.tells g.K.Sink.tells script old out plan later line q.0 q.1)
     (λ told_out. asked.ensures.printed told_out)
     (less_of l.session.text.items ask.text.items asked.ensures.gathered) s in
     let flushed : List ℕ = g.K.Sink.written c.flush_much.new.out in
     let here : Point = record now { out = flushed; text = c.flush_much.new.text.items } in
     let h =
     front_on g.S.Source.tells g.K.Sink.tells script old out (counts_from l.place.commands)
-    (event line ∷ todo_of later) later.over at flushed c.flush_much.new.text.items
+    (q.0 ∷ todo_of later) later.over at flushed c.flush_much.new.text.items
     (λ told_out. c.in_ok-flush_much-in-Do.ensures.printed told_out)
     (less_of ask.text.items c.flush_much.new.text.items c.in_ok-flush_much-in-Do.ensures.gathered) f in
     let next : ask.place.commands ≡ l.place.commands + 1 =
@@ -273,8 +273,8 @@ returns-in_err-serve-in-Do-clause-gave g c told meaning means trusted =
     let new = c.serve-in-Do.new.self in
     gave_err g.S.Source.tells g.K.Sink.tells script old out end c.from_residual-in_err-serve-in-Do.result
     (point new (g.D.Disk.past c.serve-in-Do.new.disk) (g.D.Disk.faults c.serve-in-Do.new.disk) flushed) (p.1 ∙ ap Err p.2)
-    (do_ends g.S.Source.tells g.K.Sink.tells script old out later l.place.commands ask.place.commands here line h next session new
-    (g.D.Disk.past c.serve-in-Do.new.disk) (g.D.Disk.faults c.serve-in-Do.new.disk) refl refl few
+    (do_ends g.S.Source.tells g.K.Sink.tells script old out plan later l.place.commands ask.place.commands here line q.0 q.1 h next
+    session new (g.D.Disk.past c.serve-in-Do.new.disk) (g.D.Disk.faults c.serve-in-Do.new.disk) refl refl few
     end (c.in_err-serve-in-Do.ensures.served told past (last_of old s.acts).machine s.shows) c.in_err-serve-in-Do.ensures.only)
 
 pub returns-in-End-clause-touches : goal.returns-in-End-clause-touches

@@ -15,7 +15,7 @@ pub returns-clause-place : goal.returns-clause-place
 returns-clause-place c = one_bad IsAny (λ first more any. tt)
 
 pub returns-clause-either : goal.returns-clause-either
-returns-clause-either c file = elim (file_decided IsAny (λ commits commit any. inl tt) tt file) [
+returns-clause-either c file = elim (file_decided IsAny (λ commits commit any logged. inl tt) tt file) [
   | inl log ↦ inl (log.0, log.1)
   | inr wrong ↦ inr wrong
 ]

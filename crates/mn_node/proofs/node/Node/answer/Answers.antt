@@ -1,9 +1,10 @@
 use Rattle.std.proofs.Common.{refl, ap}
 use Rattle.mn_node.specs.Inside.Tries.{failed_answer}
-use Rattle.mn_node.specs.Machine.{command, is_down}
+use Rattle.mn_node.specs.Effects.{is_down}
+use Rattle.mn_node.specs.Machine.{command}
 use Rattle.mn_node.specs.Seen as seen
 use Rattle.mn_node.proofs.NodeOwes.{failed_owes, same_owes}
-use Rattle.mn_node.proofs.NodeSteps.{puts_asked, settled_steps, failed_steps, down_steps, not_up, up_shows, tried_at, steps_at}
+use Rattle.mn_node.proofs.NodeSteps.{settled_steps, failed_steps, down_steps, not_up, up_shows, tried_at, steps_at}
 use Rattle.mn_node.proofs.node.Node.answer.Goals as goal
 
 pub returns-in_default : goal.returns-in_default
@@ -44,9 +45,8 @@ returns-in-Err-clause-steps g c told first old shown =
     let trouble = c.in-Err.trouble in
     let tried = tried_at first before now node c.in-Up.live old up shown asked _ live
     (c.in-Err.ensures.tries told _ _ (up_shows first before now node c.in-Up.live old up shown asked)) in
-    let puts = puts_asked first before now node c.in-Up.live old up shown asked in
     steps_at first before now old (command asked) _ (failed_answer trouble) node _ _ c.fail.ensures.reply
-    c.fail.ensures.node (failed_steps first before now node c.in-Up.live old up shown asked live trouble puts tried)
+    c.fail.ensures.node (failed_steps first before now node c.in-Up.live old up shown asked live trouble tried)
 
 pub returns-in-Err-clause-owes : goal.returns-in-Err-clause-owes
 returns-in-Err-clause-owes g c =

@@ -1,64 +1,72 @@
-use Rattle.std.proofs.Common.{refl, ap, ◌∙◌, map, arith}
-use Rattle.term_core.specs.declared.term.Term.{Term}
-use Rattle.db_model.specs.Database.{records_of}
+use Rattle.std.proofs.Common.{◌≡◌, true, false, sym, ap, subst, ◌∙◌}
 use Rattle.term_core.specs.View.{tree_of}
-use Rattle.mn_node.specs.Durable.{commit}
-use Rattle.mn_node.specs.Machine.{adds}
-use Rattle.mn_node.specs.Puts.{put_of}
-use Rattle.txn_log.proofs.Acts.{touches_log}
-use Rattle.mn_node.proofs.Acts.{put_over, none_tried, shows_same, put_done, put_failed, stays_log}
-use Rattle.mn_node.proofs.Owed.{wanted_owes, done_owes, undone_owes}
+use Rattle.db_model.specs.Lawful.{table_in, IsLawful}
+use Rattle.db_model.specs.Records.{Fits}
+use Rattle.db_model.specs.View.{definition, commit_record}
+use Rattle.db_state.specs.Live.{database, definition_of}
+use Rattle.mn_node.specs.Durable.{made}
+use Rattle.mn_node.specs.Effects.{no_table, bad_record, write_of, commits as commit_effect}
+use Rattle.mn_node.specs.declared.reply.Reply.TheVariants.{NoTable, BadRecord}
+use Rattle.mn_node.proofs.Acts.{none_tried, only_told, refuses_answered, tries_as}
+use Rattle.mn_node.proofs.Lookups.{some_and, known_as, none_standing}
+use Rattle.mn_node.proofs.Refusals.{put_unknown, put_unfit, put_known, write_lawful, commits_take}
 use Rattle.mn_node.proofs.open.Open.put.Goals as goal
 
-pub returns-in_err-made-clause-tries : goal.returns-in_err-made-clause-tries
-returns-in_err-made-clause-tries g c told commits synced shown =
-    none_tried shown (adds (commit (put_of (tree_of c.args.row)))) c.from_residual.result refl c.from_residual.ensures.1
+pub returns-in_default-clause-tries : goal.returns-in_default-clause-tries
+returns-in_default-clause-tries g c told commits synced shown =
+    let base = (made commits).database in
+    let name = c.args.table in
+    only_told shown _ (NoTable name) c.told.result (refuses_answered _ (no_table name)
+    (put_unknown (table_in name base.tables) base.version name (tree_of c.args.row) (none_standing shown name c.in_default.ensures)))
+    c.told.ensures
 
-pub returns-in_err-reserve-clause-tries : goal.returns-in_err-reserve-clause-tries
-returns-in_err-reserve-clause-tries g c told commits synced shown =
-    none_tried (shows_same shown c.reserve.ensures.rows shown.log) (adds (commit (put_of (tree_of c.args.row))))
-    c.from_residual-in_err-reserve.result refl c.from_residual-in_err-reserve.ensures.1
-
-pub returns-in-Ok-clause-tries : goal.returns-in-Ok-clause-tries
-returns-in-Ok-clause-tries g c told commits synced shown =
+pub returns-then-not-fits-clause-tries : goal.returns-then-not-fits-clause-tries
+returns-then-not-fits-clause-tries g c told commits synced shown =
+    let base = (made commits).database in
+    let name = c.args.table in
     let item = tree_of c.args.row in
-    let log = c.append.ensures in
-    put_done shown item c.reserve.new.self.rows.items c.requires.row c.reserve.ensures.rows
-    (λ key. c.put.ensures key
-    ∙ ap (λ (row : Term). put_over key (tree_of row) (records_of key (map tree_of c.reserve.new.self.rows.items))) c.in_ok-made.ensures.1)
-    (c.in-Ok.ensures.stands commits synced (put_of item) told c.in_ok-made.ensures.0 shown.log)
-    (log.any_moment commits synced (put_of item) told c.in_ok-made.ensures.0 shown.log)
-    (log.sound commits synced told shown.log) (touches_log _ _ (log.calls.touches told))
+    let known = some_and (λ t. definition c.in-Some.def.now ≡ definition_of t) (table_in name (database c.args.self.now.tables).tables)
+    c.in-Some.ensures.1 in
+    let unfit : Fits known.0.definition item → ⊥ = λ fit.
+    let yes : c.fits.result ≡ true = c.fits.ensures.1 (subst (λ d. Fits d item) (sym known.2) fit) in cc (yes, c.if-not-fits.true) in
+    only_told shown _ (BadRecord c.args.row) c.told-then-not-fits.result (refuses_answered _ (bad_record item)
+    (put_unfit (table_in name base.tables) known.0 base.version name item (sym (known_as shown name) ∙ known.1) unfit))
+    c.told-then-not-fits.ensures
 
-pub returns-in-Err-clause-tries : goal.returns-in-Err-clause-tries
-returns-in-Err-clause-tries g c told commits synced shown =
+pub returns-in_err-commit-clause-tries : goal.returns-in_err-commit-clause-tries
+returns-in_err-commit-clause-tries g c told commits synced shown =
+    let base = (made commits).database in
+    let name = c.args.table in
     let item = tree_of c.args.row in
-    let log = c.append.ensures in
-    let failed = c.in-Err.ensures in
-    put_failed shown item c.in-Err.error c.why.result c.reserve.ensures.rows
-    (record { only = failed.calls.only; named = failed.calls.named; file = c.why.ensures.file; memory = c.why.ensures.memory })
-    (failed.left commits synced (put_of item) told c.in_ok-made.ensures.0 shown.log)
-    (log.any_moment commits synced (put_of item) told c.in_ok-made.ensures.0 shown.log)
-    (log.sound commits synced told shown.log) (touches_log _ _ (log.calls.touches told))
-    (λ wanted. (failed.kept commits synced told shown.log wanted, failed.only_old commits synced told shown.log wanted))
+    let known = some_and (λ t. definition c.in-Some.def.now ≡ definition_of t) (table_in name (database c.args.self.now.tables).tables)
+    c.in-Some.ensures.1 in
+    let fit = subst (λ d. Fits d item) known.2 (c.fits.ensures.0 c.if-not-fits.false) in
+    let is = put_known (table_in name base.tables) known.0 base.version name item (sym (known_as shown name) ∙ known.1) fit in
+    none_tried shown _ c.from_residual.result
+    (ap (λ e. e.takes_memory) is ∙ commits_take false (write_of base.version name item)) c.from_residual.ensures.1
 
-pub returns-in_err-made-clause-owes : goal.returns-in_err-made-clause-owes
-returns-in_err-made-clause-owes g c =
-    wanted_owes g.D.Disk c.args.disk.now c.args.self.now _ c.from_residual.result refl c.requires.log c.from_residual.ensures.1
+pub commit-requires-clause-lawful : goal.commit-requires-clause-lawful
+commit-requires-clause-lawful g c =
+    let live = database c.args.self.now.tables in
+    let name = c.args.table in
+    let item = tree_of c.args.row in
+    let known = some_and (λ t. definition c.in-Some.def.now ≡ definition_of t) (table_in name live.tables) c.in-Some.ensures.1 in
+    let fit = subst (λ d. Fits d item) known.2 (c.fits.ensures.0 c.if-not-fits.false) in
+    let is : commit_record c.in_ok-commit.commit ≡ write_of live.version name item =
+    ap commit_record c.in_ok-commit.ensures ∙ ap (λ v. write_of v name item) c.schema.ensures.version in
+    subst (λ r. IsLawful r live) (sym is) (write_lawful live known.0 name item known.1 fit)
 
-pub returns-in_err-reserve-clause-owes : goal.returns-in_err-reserve-clause-owes
-returns-in_err-reserve-clause-owes g c =
-    wanted_owes g.D.Disk c.args.disk.now c.args.self.now _ c.from_residual-in_err-reserve.result refl c.requires.log
-    c.from_residual-in_err-reserve.ensures.1
-
-pub returns-in-Ok-clause-owes : goal.returns-in-Ok-clause-owes
-returns-in-Ok-clause-owes g c =
-    done_owes g.D.Disk c.args.disk.now c.append.new.disk c.args.self.now _ _ c.in-Ok.ensures.calls (λ told up. c.in-Ok.ensures.log told)
-    (omega (arith, c.in-Ok.ensures.ok)) (record { fault = refl; memory = refl; up = λ is. absurd (cc is) })
-
-pub returns-in-Err-clause-owes : goal.returns-in-Err-clause-owes
-returns-in-Err-clause-owes g c =
-    undone_owes g.D.Disk c.args.disk.now c.append.new.disk c.args.self.now _ c.in-Err.error c.why.result
-    c.in-Err.ensures.calls c.why.ensures.file c.why.ensures.only
-    (λ told. stays_log _ _ c.in-Err.error c.why.result c.why.ensures.only_memory (c.in-Err.ensures.wanted told))
-    (omega (arith, c.in-Err.ensures.err))
+pub returns-clause-tries : goal.returns-clause-tries
+returns-clause-tries g c told commits synced shown =
+    let base = (made commits).database in
+    let name = c.args.table in
+    let item = tree_of c.args.row in
+    let known = some_and (λ t. definition c.in-Some.def.now ≡ definition_of t) (table_in name (database c.args.self.now.tables).tables)
+    c.in-Some.ensures.1 in
+    let fit = subst (λ d. Fits d item) known.2 (c.fits.ensures.0 c.if-not-fits.false) in
+    let is = put_known (table_in name base.tables) known.0 base.version name item (sym (known_as shown name) ∙ known.1) fit in
+    let written : commit_record c.in_ok-commit.commit ≡ write_of base.version name item =
+    ap commit_record c.in_ok-commit.ensures ∙ ap (λ v. write_of v name item) c.schema.ensures.version
+    ∙ ap (λ d. write_of d.version name item) shown.same in
+    tries_as _ (commit_effect false (commit_record c.in_ok-commit.commit)) (is ∙ ap (commit_effect false) (sym written))
+    (c.commit.ensures.tries told commits synced shown)

@@ -1,6 +1,9 @@
+use Rattle.std.proofs.Common.{sym, subst}
 use Rattle.mn_node.specs.Seen.{answer}
+use Rattle.mn_node.specs.Shown.{IsWhole}
+use Rattle.mn_node.specs.declared.node.Node.{Node}
 use Rattle.mn_run.specs.Seen as seen
-use Rattle.mn_run.proofs.RunServes.{served}
+use Rattle.mn_run.proofs.RunServes.{served, whole_on}
 use Rattle.mn_run.proofs.session.Session.serve.Goals as goal
 
 pub returns-clause-served : goal.returns-clause-served
@@ -11,3 +14,9 @@ returns-clause-served g c told first machine shown =
     c.mark_now-mark.result (c.mark_now-mark.ensures told)
     (answer c.answer-reply.result) c.answer-reply.ensures.owes.calls.rose c.answer-reply.ensures.owes.calls.answered (seen.event c.args.line)
     (c.answer-reply.ensures.steps told first machine shown) c.tell.result c.tell.ensures.told
+
+pub returns-clause-whole : goal.returns-clause-whole
+returns-clause-whole g c =
+    whole_on (answer c.answer-reply.result) c.mark_now-mark.result c.tell.result c.args.self.now.text.items c.tell.new.self.text.items
+    c.args.self.now.marks.items c.tell.new.self.marks.items c.tell.new.self.node.state c.tell.ensures.told
+    (λ sound. subst (λ (n : Node). IsWhole n.state) (sym c.tell.ensures.node) (c.answer-reply.ensures.owes.whole sound))

@@ -1,0 +1,38 @@
+use Rattle.std.proofs.Common.{◌≡◌, true, sym, ap, subst, ◌∙◌, Ok, Err}
+use Rattle.db_model.specs.Lawful.{IsLawful}
+use Rattle.db_model.specs.View.{definition, commit_record}
+use Rattle.schema_txn.specs.Commands.{create_commit}
+use Rattle.mn_node.specs.Durable.{made}
+use Rattle.mn_node.specs.Effects.{IsAskable, create_table, create_effect, commits as commit_effect}
+use Rattle.mn_node.specs.Seen.{read_as}
+use Rattle.mn_node.proofs.Acts.{tries_as}
+use Rattle.mn_node.proofs.Refusals.{create_free, create_refused, create_undefined}
+use Rattle.mn_node.proofs.open.Open.create.Goals as goal
+
+pub returns-in-Err-clause-tries : goal.returns-in-Err-clause-tries
+returns-in-Err-clause-tries g c told commits synced shown =
+    let base = (made commits).database in
+    tries_as _ (create_effect base c.args.name (Err c.in-Err.error))
+    (ap (λ r. create_effect base c.args.name (read_as r)) c.in-Err.is)
+    (create_undefined shown c.args.name c.in-Err.error c.undefined.result c.undefined.ensures)
+
+pub returns-in-Ok-create_table-clause-tries : goal.returns-in-Ok-create_table-clause-tries
+returns-in-Ok-create_table-clause-tries g c told commits synced shown =
+    let base = (made commits).database in
+    let d = definition c.in-Ok.def in
+    let asked = subst (λ r. IsAskable (create_table c.args.name (read_as r))) c.in-Ok.is c.requires.asked in
+    let cr = commit_record c.in-Ok-create_table.commit in
+    let is : cr ≡ create_commit d base = c.in-Ok-create_table.ensures.commit ∙ ap (create_commit d) shown.same in
+    let lawful = subst (λ r. IsLawful r base) is (subst (IsLawful cr) shown.same c.in-Ok-create_table.ensures.lawful) in
+    tries_as _ (commit_effect true cr)
+    (ap (λ r. create_effect base c.args.name (read_as r)) c.in-Ok.is ∙ create_free base d c.args.name asked.0 lawful
+    ∙ ap (commit_effect true) (sym is)) (c.commit.ensures.tries told commits synced shown)
+
+pub returns-in-Err-create_table-clause-tries : goal.returns-in-Err-create_table-clause-tries
+returns-in-Err-create_table-clause-tries g c told commits synced shown =
+    let base = (made commits).database in
+    let d = definition c.in-Ok.def in
+    let asked = subst (λ r. IsAskable (create_table c.args.name (read_as r))) c.in-Ok.is c.requires.asked in
+    tries_as _ (create_effect base c.args.name (Ok d)) (ap (λ r. create_effect base c.args.name (read_as r)) c.in-Ok.is)
+    (create_refused shown d c.args.name c.in-Err-create_table.error c.refused.result asked.0
+    c.in-Err-create_table.ensures.refused c.refused.ensures)
