@@ -1,0 +1,14 @@
+//! Queries of tables: which records match a pattern.
+//!
+//! `specs/Patterns.antt` says what a pattern is, and which terms match it.
+#![tactic(auto)]
+
+mod atoms;
+mod laws;
+mod matching;
+
+pub use laws::pattern_law;
+pub use matching::matches;
+
+#[cfg(test)]
+mod tests;
