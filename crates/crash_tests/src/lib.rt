@@ -3,8 +3,6 @@
 #![tactic(auto)]
 
 #[cfg(test)]
-mod bags;
-#[cfg(test)]
 mod faults;
 #[cfg(test)]
 mod images;

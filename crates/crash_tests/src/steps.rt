@@ -145,27 +145,18 @@ pub fn script_of(alloc: Global, steps: &[Step]) -> Result<String, AllocError> {
     Ok(script)
 }
 
-/// A run of this script: its outcome, and what it wrote.
-pub fn ran_script(
-    alloc: Global,
-    disk: &mut MemDisk,
-    script: &str,
-) -> Result<(Outcome, Vec<u8>), AllocError> {
-    let words = vec![in alloc; String::from_str(alloc, "data")?]?;
-    let mut source = MemSource::new(script.as_bytes(), 4096, None);
-    let mut sink = MemSink::new(alloc, 4096, None);
-    let outcome = run(alloc, &words, disk, &mut source, &mut sink);
-    Ok((outcome, sink.bytes().to_vec(alloc)?))
-}
-
-/// A run of these commands.
+/// A run of these commands: its outcome, and what it wrote.
 pub fn ran(
     alloc: Global,
     disk: &mut MemDisk,
     steps: &[Step],
 ) -> Result<(Outcome, Vec<u8>), AllocError> {
+    let words = vec![in alloc; String::from_str(alloc, "data")?]?;
     let script = script_of(alloc, steps)?;
-    ran_script(alloc, disk, &script)
+    let mut source = MemSource::new(script.as_bytes(), 4096, None);
+    let mut sink = MemSink::new(alloc, 4096, None);
+    let outcome = run(alloc, &words, disk, &mut source, &mut sink);
+    Ok((outcome, sink.bytes().to_vec(alloc)?))
 }
 
 /// How many calls of the disk a run of the script takes.
