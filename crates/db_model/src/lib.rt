@@ -29,6 +29,3 @@ pub use op_terms::{op_of_term, op_term};
 pub use options::{create_list, parse_options};
 pub use record::{allows, fits};
 pub use schema_op_terms::{schema_op_of_term, schema_op_term};
-
-#[cfg(test)]
-mod tests;

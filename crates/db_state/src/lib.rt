@@ -16,6 +16,3 @@ mod taking;
 
 pub use live::Live;
 pub use plan::Plan;
-
-#[cfg(test)]
-mod tests;

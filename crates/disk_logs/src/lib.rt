@@ -11,6 +11,3 @@ pub use error::LogErr;
 pub use laws::{frame_law, sound_law, standing_law};
 pub use log::Log;
 pub use log_file::LogFile;
-
-#[cfg(test)]
-mod tests;

@@ -15,6 +15,3 @@ pub use laws::{item_law, place_law, span_law, written_law};
 pub use put::{head, put_head, put_item};
 pub use scanning::scan;
 pub use spans::{Scan, Span};
-
-#[cfg(test)]
-mod tests;

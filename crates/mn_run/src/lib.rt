@@ -17,6 +17,3 @@ pub use mn_node::directory_law;
 pub use mn_script::{command_laws, line_laws};
 pub use outcome::{Mark, Outcome, Status};
 pub use running::run;
-
-#[cfg(test)]
-mod tests;

@@ -148,24 +148,3 @@ fn put_term(term: &Term, out: &mut Vec<u8>) -> Result<(), AllocError>
         Err(_) => Err(AllocError),
     }
 }
-
-#[cfg(test)]
-mod tests {
-    use super::*;
-    use std::test::Fail;
-
-    #[test]
-    fn replies_that_no_script_shows(rt: HostRuntime) -> Result<(), Fail> {
-        let mut out = Vec::new(rt.alloc());
-        let log = FileName::new(b"LATEST.LOG").ok_or("name")?;
-        print_reply(&Reply::Memory, &mut out)?;
-        print_reply(&Reply::TooManyTables, &mut out)?;
-        print_reply(&Reply::TooManyVersions, &mut out)?;
-        print_reply(&Reply::TooLong, &mut out)?;
-        print_reply(&Reply::Damaged(log, 0), &mut out)?;
-        let lines =
-            "{error,memory}\n{aborted,{limit,tables}}\n{aborted,{limit,versions}}\n{aborted,{limit,commit}}\n";
-        assert_eq!(rt; out.as_slice(), lines.as_bytes());
-        Ok(())
-    }
-}

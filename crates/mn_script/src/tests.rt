@@ -1,26 +1,9 @@
 //! Lines of other tables of forms, which no script shows. What the program's lines ask for, and where others are
 //! refused, is shown by scripts.
 
-use crate::{Command, Form, Kind, LineErr, read_command, read_line};
+use crate::{Form, Kind, LineErr, read_line};
 use std::alloc::Global;
 use std::test::Fail;
-
-#[test]
-fn a_line_is_a_command(rt: HostRuntime) -> Result<(), Fail> {
-    assert!(rt;
-        matches!(
-            read_command(rt.alloc(), b" sync_log "),
-            Ok(Some(Command::SyncLog))
-        )
-    );
-    assert!(rt;
-        matches!(
-            read_command(rt.alloc(), b"sync_logs"),
-            Err(LineErr::Badarg(8))
-        )
-    );
-    Ok(())
-}
 
 /// Forms with names of backups and with numbers.
 const FORMS: [Form<'static>; 3] = [

@@ -11,6 +11,3 @@ mod step;
 mod table;
 
 pub use table::{RamTable, TablePlan};
-
-#[cfg(test)]
-mod tests;

@@ -8,6 +8,3 @@ mod error;
 
 pub use commands::{create_table, delete_table};
 pub use error::SchemaErr;
-
-#[cfg(test)]
-mod tests;

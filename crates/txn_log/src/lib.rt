@@ -14,6 +14,3 @@ pub use commit_items::{CommitItem, decode_commit, encode_commit};
 pub use laws::{commit_law, item_law, log_law};
 pub use log::TxnLog;
 pub use names::latest;
-
-#[cfg(test)]
-mod tests;
