@@ -20,6 +20,3 @@ pub use laws::{
 pub use printing::print_term;
 pub use reading::{read_term, read_term_within};
 pub use tokens::{is_blank, unblanked};
-
-#[cfg(test)]
-mod tests;

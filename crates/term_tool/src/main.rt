@@ -1,9 +1,10 @@
 //! Works on terms as text, a line each. `term_tool show` prints each as text and, behind a tab, as bytes in hexadecimal;
 //! `term_tool sort` prints all of them in their order. `read`, `print`, `encode` and `decode` do this to every term as often as
-//! the next word says, and print nothing, so that it can be timed. The exit status is 1 where a line is no term, and 2 where
-//! the words are others.
+//! the next word says, and print nothing, so that it can be timed. `term_tool answer` answers a table of terms as text and as
+//! bytes, with its refusals (`answers.rt`). The exit status is 1 where a line is no term, and 2 where the words are others.
 #![tactic(auto)]
 
+mod answers;
 mod tasks;
 mod terms;
 

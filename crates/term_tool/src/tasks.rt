@@ -2,6 +2,7 @@
 
 ghost use Rattle.std.specs.Prelude.{◌≡◌, OnOk};
 
+use crate::answers::answer_of;
 use crate::terms::{bytes_of, line_of, term_of, text_of};
 use std::alloc::Global;
 use std::io::{self, BufRead, BufReader, BufWriter, ErrorKind, Write};
@@ -17,6 +18,7 @@ pub enum Task {
     Print,
     Encode,
     Decode,
+    Answer,
 }
 
 impl Task {
@@ -29,6 +31,7 @@ impl Task {
             "print" => Some(Task::Print),
             "encode" => Some(Task::Encode),
             "decode" => Some(Task::Decode),
+            "answer" => Some(Task::Answer),
             _ => None,
         }
     }
@@ -58,6 +61,7 @@ fn terms_of(alloc: Global, lines: &[Vec<u8>]) -> io::Result<Vec<Term>> {
 fn show<W: Write>(alloc: Global, terms: &[Term], out: &mut W) -> io::Result<()> {
     for term in terms {
         out.write_all(&line_of(alloc, term)?)?;
+        out.write_all(b"\n")?;
     }
     Ok(())
 }
@@ -110,13 +114,31 @@ fn read_bytes(alloc: Global, terms: &[Term], times: u32) -> io::Result<()> {
     Ok(())
 }
 
+// Each line as it is where it is empty or a comment, and else its answer.
+fn answer<W: Write>(alloc: Global, lines: &[Vec<u8>], out: &mut W) -> io::Result<()> {
+    for line in lines {
+        if line.is_empty() || line.starts_with(b"%") {
+            out.write_all(line)?;
+        } else {
+            out.write_all(&answer_of(alloc, line)?)?;
+        }
+        out.write_all(b"\n")?;
+    }
+    Ok(())
+}
+
 /// Reads the terms and does the task.
 pub fn run(rt: &HostRuntime, task: Task, times: u32) -> io::Result<()> {
     let alloc = rt.alloc();
     let lines = lines_of(rt)?;
-    let terms = terms_of(alloc, &lines)?;
     let mut out = BufWriter::new(alloc, io::writer(rt))?;
+    if task == Task::Answer {
+        answer(alloc, &lines, &mut out)?;
+        return out.flush();
+    }
+    let terms = terms_of(alloc, &lines)?;
     match task {
+        Task::Answer => (),
         Task::Show => show(alloc, &terms, &mut out)?,
         Task::Sort => sort(alloc, terms, &mut out)?,
         Task::Read => read(alloc, &lines, times)?,

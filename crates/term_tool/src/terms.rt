@@ -1,6 +1,6 @@
 //! One term as text and as bytes.
 
-ghost use Rattle.std.specs.Prelude.{◌≡◌, ◌++◌, ◌∷◌, [], length, string_bytes, IfOk, IfSome};
+ghost use Rattle.std.specs.Prelude.{◌≡◌, ◌++◌, ◌∷◌, length, string_bytes, IfOk, IfSome};
 ghost use Rattle.hex.specs.Hex.{encode_lower};
 ghost use Rattle.term_core.specs.View.{tree_of};
 ghost use Rattle.term_core.specs.Written.{canon};
@@ -45,15 +45,14 @@ pub fn bytes_of(alloc: Global, term: &Term) -> io::Result<Vec<u8>>
     }
 }
 
-/// Its text, a tab, its bytes in hexadecimal, and the end of the line.
+/// Its text, a tab, and its bytes in hexadecimal.
 pub fn line_of(alloc: Global, term: &Term) -> io::Result<Vec<u8>>
-    ensures { IfOk result (λ line. line.items ≡ printed (tree_of term.now) ++ (9 ∷ (encode_lower (canon (tree_of term.now)) ++ 10 ∷ []))) }
+    ensures { IfOk result (λ line. line.items ≡ printed (tree_of term.now) ++ (9 ∷ encode_lower (canon (tree_of term.now)))) }
 {
     let mut line = text_of(alloc, term)?;
     let bytes = bytes_of(alloc, term)?;
     let digits = hex::encode(alloc, &bytes)?;
     line.push(b'\t')?;
     line.extend_from_slice(digits.as_bytes())?;
-    line.push(b'\n')?;
     Ok(line)
 }

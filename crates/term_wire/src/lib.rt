@@ -20,6 +20,3 @@ pub use encoding::{encode, put_term};
 pub use error::{EncodeErr, WireErr};
 pub use term_core::wire_len;
 pub use write::put_atom;
-
-#[cfg(test)]
-mod tests;
