@@ -12,7 +12,7 @@ const MOST_CHARACTERS: usize = 64;
 pub fn is_name(name: &Atom) -> bool
     ensures { IsTrue result ↔ IsName name.now }
 {
-    let bytes = name.text().as_bytes();
+    let bytes = name.as_bytes();
     !bytes.is_empty() && bytes.len() <= MOST_CHARACTERS && are_name_bytes(bytes)
 }
 
@@ -20,7 +20,7 @@ pub fn is_name(name: &Atom) -> bool
 pub fn is_table_name(name: &Atom) -> bool
     ensures { IsTrue result ↔ IsTableName name.now }
 {
-    is_name(name) && name.text() != "schema"
+    is_name(name) && name.as_bytes() != b"schema".as_slice()
 }
 
 fn are_name_bytes(bytes: &[u8]) -> bool

@@ -1,6 +1,6 @@
 -- The database as its parts show it.
 use Rattle.std.proofs.Common.{◌≡◌, ℕ, zero, suc, ◌≤◌, false, if◌then◌else◌, List, [], ◌∷◌, length, map, take}
-use Rattle.std.proofs.Common.{refl, sym, ap, ◌∙◌, None, Some}
+use Rattle.std.proofs.Common.{refl, sym, ap, ◌∙◌, subst, None, Some, ◌+◌, ◌<◌, get_or, add-one, arith}
 use Rattle.std.specs.Prelude.{All, slice_get}
 use Rattle.std.specs.Option.{option_map}
 use Rattle.std.specs.List.{AllByRecursion as Each}
@@ -11,7 +11,10 @@ use Rattle.db_model.specs.Lawful.{table_in}
 use Rattle.db_model.specs.View.{definition}
 use Rattle.db_model.specs.declared.definition.Kind.{Kind}
 use Rattle.db_model.specs.declared.definition.TableDef.{TableDef}
-use Rattle.ram_table.specs.Contents.{TableRecords, contents}
+use Rattle.ram_table.specs.Contents.{TableRecords, contents, IsInOrder}
+use Rattle.term_core.specs.View.{tree_of}
+use Rattle.term_core.specs.declared.term.Term.{Term}
+use Rattle.db_state.specs.Live.{AreInOrder, IsKeyedTable}
 use Rattle.db_state.specs.Live.{with_contents, AreTables, HasKey, is_named, definition_of, table_seen, table_shown}
 use Rattle.db_state.specs.Inside.Parts.{kind_of}
 use Rattle.db_state.proofs.Places.{IsFirst}
@@ -31,6 +34,37 @@ defs_shown [] [] a = refl
 defs_shown [] (t ∷ ts) a = absurd a
 defs_shown (d ∷ ds) [] a = absurd a
 defs_shown (d ∷ ds) (t ∷ ts) a = ap (λ rest. definition d ∷ rest) (defs_shown ds ts a.1)
+
+abbrev pub IsOrderedTable : TableRecords → Type 0
+IsOrderedTable table = IsInOrder (contents table)
+
+pub ordered_more : (tables : List TableRecords) (i : ℕ) (table : TableRecords) → i < length tables
+    → table ≡ get_or tables i table → IsOrderedTable table → Each IsOrderedTable (take i tables)
+    → Each IsOrderedTable (take (i + 1) tables)
+ordered_more tables i table lt is new h = rw add-one (by tables i lt is h)
+  where
+    by : (ts : List TableRecords) (n : ℕ) → n < length ts → table ≡ get_or ts n table
+        → Each IsOrderedTable (take n ts) → Each IsOrderedTable (take (suc n) ts)
+    by [] n lt is h = absurd (omega arith)
+    by (t ∷ ts) zero lt is h = (subst IsOrderedTable is new, tt)
+    by (t ∷ ts) (suc n) lt is h = (h.0, by ts n (omega arith) is h.1)
+
+pub order_shown : (defs : List TableDef) (tables : List TableRecords) → Each IsOrderedTable tables
+    → AreInOrder (shown defs tables)
+order_shown [] tables h = tt
+order_shown (d ∷ ds) [] h = tt
+order_shown (d ∷ ds) (t ∷ ts) h = (h.0, order_shown ds ts h.1)
+
+as_long : (terms : List Term) → length (map tree_of terms) ≡ length terms
+as_long [] = refl
+as_long (term ∷ terms) = ap suc (as_long terms)
+
+pub keys_shown : (defs : List TableDef) (tables : List TableRecords) → AreTables defs tables
+    → Each IsKeyedTable (shown defs tables)
+keys_shown [] [] a = tt
+keys_shown [] (t ∷ ts) a = absurd a
+keys_shown (d ∷ ds) [] a = absurd a
+keys_shown (d ∷ ds) (t ∷ ts) a = (rw (as_long d.attributes) a.0.keyed, keys_shown ds ts a.1)
 
 -- ---- tables without records
 

@@ -1,12 +1,13 @@
 -- The live database.
 use Rattle.std.specs.Prelude.{◌≡◌, ℕ, ◌<◌, Bool, List, [], ◌∷◌, map, length}
+use Rattle.std.specs.List.{AllByRecursion}
 use Rattle.db_model.specs.Database.{Contents, Table, Database, same_name}
 use Rattle.db_model.specs.Definitions.{Definition}
 use Rattle.db_model.specs.View.{definition}
 use Rattle.db_model.specs.declared.definition.Kind.{Kind}
 use Rattle.db_model.specs.declared.definition.Schema.{Schema}
 use Rattle.db_model.specs.declared.definition.TableDef.{TableDef}
-use Rattle.ram_table.specs.Contents.{TableRecords, contents}
+use Rattle.ram_table.specs.Contents.{TableRecords, contents, IsInOrder}
 
 -- the live database as contracts see it: its schema, and the table of each definition in the same order
 pub record LiveTables : Type 0 where
@@ -33,6 +34,14 @@ definition_of table = table.definition
 -- a record that a table of this definition can have has a key: it has an element for each attribute
 abbrev pub HasKey : TableDef → Type 0
 HasKey def = 0 < length def.attributes
+
+-- each table's records are in the order of their keys
+abbrev pub AreInOrder : List Table → Type 0
+AreInOrder tables = AllByRecursion (λ table. IsInOrder table.contents) tables
+
+-- a record that the table can have has a key
+abbrev pub IsKeyedTable : Table → Type 0
+IsKeyedTable table = 0 < length table.definition.attributes
 
 -- a table is its kind with its contents
 abbrev pub table_seen : TableRecords → Kind × Contents

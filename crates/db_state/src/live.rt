@@ -6,8 +6,10 @@ ghost use Rattle.db_model.specs.Database.{empty_table, do_commit};
 ghost use Rattle.db_model.specs.Lawful.{table_in, IsLawful};
 ghost use Rattle.db_model.specs.View.{definition, operation, commit_record};
 ghost use Rattle.db_model.specs.Taken.{MayTakeOp, Takes};
-ghost use Rattle.std.specs.List.{position_from};
+ghost use Rattle.std.specs.List.{position_from, AllByRecursion};
+ghost use Rattle.ram_table.specs.Contents.{contents, IsInOrder};
 ghost use Rattle.db_state.specs.Live.{database, definition_of, table_seen, table_shown, HasKey, is_named};
+ghost use Rattle.db_state.specs.Live.{AreInOrder, IsKeyedTable};
 ghost use Rattle.db_state.specs.Inside.Sources.{IsArranged};
 ghost use Rattle.db_state.specs.Inside.Taking.{arranged_tables, TakesOps};
 ghost use Rattle.db_state.specs.Plans.{planned, IsMadeFor};
@@ -83,6 +85,20 @@ impl Live {
             schema: schema.try_clone(alloc)?,
             tables,
         })
+    }
+
+    /// The law of keys: a record that a table can have has a key.
+    pub fn key_law(&self)
+        ensures { AllByRecursion IsKeyedTable (database self.now).tables }
+    {
+        let _ = &self.schema;
+    }
+
+    /// The law of order: the records of each table are in the order of their keys.
+    pub fn order_law(&self)
+        ensures { AreInOrder (database self.now).tables }
+    {
+        order_law_of(self.tables.as_slice());
     }
 
     /// The definitions of the tables, in their order, and the version.
@@ -205,6 +221,15 @@ impl Live {
         ensures { result ≡ position_from (is_named name.now) 0 self.now.schema.tables }
     {
         place_in(self.schema.tables.as_slice(), name)
+    }
+}
+
+/// The same law of these tables.
+fn order_law_of(tables: &[RamTable])
+    ensures { AllByRecursion (λ table. IsInOrder (contents table)) tables.now }
+{
+    for table in tables {
+        table.order_law();
     }
 }
 

@@ -9,3 +9,4 @@ pub mod RunCrash
 pub mod RunFronts
 pub mod RunLoop
 pub mod RunServes
+pub mod Stretches

@@ -1,6 +1,7 @@
 pub mod Asks
 pub mod Commands
 pub mod Lines
+pub mod Marks
 pub mod Reading
 pub mod Replies
 pub mod Runs

@@ -6,6 +6,7 @@ mod asks;
 mod commands;
 mod gathered;
 mod lines;
+mod marks;
 mod outcome;
 mod replies;
 mod running;
@@ -13,6 +14,7 @@ mod session;
 mod terms;
 mod words;
 
+pub use marks::Marks;
 pub use mn_node::directory_law;
 pub use mn_script::{command_laws, line_laws};
 pub use outcome::{Mark, Outcome, Status};

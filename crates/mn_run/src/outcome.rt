@@ -3,6 +3,7 @@
 ghost use Rattle.std.specs.Prelude.{◌≡◌};
 ghost use Rattle.mn_run.specs.Statuses.{number_of};
 
+use crate::marks::Marks;
 use file_trait::FileName;
 
 /// How a run ended.
@@ -71,5 +72,5 @@ pub struct Outcome {
     /// One mark after the first start, one after each command, and one after the stop at the script's end where there
     /// was one. Where a status ended the run, what came last may have none. There are none for words that are not of
     /// the form.
-    pub marks: Vec<Mark>,
+    pub marks: Marks,
 }

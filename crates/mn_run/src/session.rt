@@ -15,6 +15,7 @@ ghost use Rattle.mn_run.specs.Sessions.{Told, Served, Ended, IsOfAnswering, IsOf
 ghost use Rattle.mn_run.specs.Statuses.{status_of_down};
 
 use crate::commands::Line;
+use crate::marks::Marks;
 use crate::outcome::{Mark, Status};
 use crate::replies::print_reply;
 use file_trait::Disk;
@@ -30,7 +31,7 @@ pub struct Session {
     pub node: Node,
     /// The lines of replies that are not written yet.
     pub text: Vec<u8>,
-    pub marks: Vec<Mark>,
+    pub marks: Marks,
 }
 
 impl Session {
@@ -43,7 +44,7 @@ impl Session {
         Session {
             node: Node::new(),
             text: Vec::new(alloc),
-            marks: Vec::new(alloc),
+            marks: Marks::new(alloc),
         }
     }
 

@@ -15,7 +15,7 @@ use Rattle.db_model.specs.Database.{is_key, has_key, has_key_of, records_of, wit
 use Rattle.db_model.specs.Database.{is_key_below, comes_before, with_record, put_record}
 use Rattle.db_model.specs.declared.definition.Kind.{Kind}
 use Rattle.db_model.specs.declared.definition.Kind.TheVariants.{Set, OrderedSet, Bag}
-use Rattle.ram_table.specs.Contents.{records_above, first_key, IsLeastKey}
+use Rattle.ram_table.specs.Contents.{IsInOrder, records_above, first_key, IsLeastKey}
 use Rattle.ram_table.specs.Inside.Rows.{row_key, key_cmp, row_cmp, at, above, put, without, without_row, first_row_key}
 use Rattle.ram_table.specs.Inside.Rows.{AreKeyed, IsIncreasing}
 use Rattle.ram_table.proofs.Increasing.{Lt, each_map, each_filter, each_tested, key_below, key_above, not_above, tied_above}
@@ -147,6 +147,14 @@ pub first_above_trees : (k : Tree) (rows : List Term) → AreKeyed rows
     → first_row_key (above k rows) ≡ first_key (records_above (Some k) (map tree_of rows))
 first_above_trees k rows a =
     first_trees (above k rows) (each_filter HasKey (λ x. is_gt (key_cmp k x)) rows a) ∙ ap first_key (above_trees k rows a)
+
+-- an increasing list is in the order of its keys
+pub in_order : (kind : Kind) (rows : List Term) → IsIncreasing kind rows → AreKeyed rows → IsInOrder (map tree_of rows)
+in_order kind [] r a = tt
+in_order kind (x ∷ rows) r a = (
+  subst (λ k. Each (λ row. is_key_below (key_of row) k ≡ false) (map tree_of rows)) (sym (own_key x a.0)) (not_below_all kind x rows r.0 a.1),
+  in_order kind rows r.1 a.1,
+)
 
 -- ---- deletes
 

@@ -22,6 +22,12 @@ abbrev pub put_ops : Kind → List Operation → Contents → Contents
 put_ops kind [] rows = rows
 put_ops kind (op ∷ ops) rows = put_ops kind ops (put_op kind op rows)
 
+-- no record's key is below that of an earlier one
+abbrev pub IsInOrder : Contents → Type 0
+IsInOrder [] = Unit {0}
+IsInOrder (row ∷ rows) =
+    AllByRecursion (λ later. is_key_below (key_of later) (key_of row) ≡ false) rows × IsInOrder rows
+
 -- a record that is written has a key
 abbrev pub IsKeyed : Operation → Type 0
 IsKeyed (write table row) = IsSome (key_of row)

@@ -7,7 +7,7 @@ ghost use Rattle.std.specs.Option.{option_map, option_copied};
 ghost use Rattle.term_core.specs.View.{tree_of};
 ghost use Rattle.db_model.specs.Database.{records_of, put_op};
 ghost use Rattle.db_model.specs.View.{operation};
-ghost use Rattle.ram_table.specs.Contents.{contents, put_ops, IsKeyed, records_above, first_key, IsLeastKey};
+ghost use Rattle.ram_table.specs.Contents.{contents, put_ops, IsInOrder, IsKeyed, records_above, first_key, IsLeastKey};
 ghost use Rattle.ram_table.specs.Plans.{planned, IsMadeFor};
 ghost use Rattle.ram_table.specs.Inside.Pages.{joined, IsPaged, room_for};
 ghost use Rattle.ram_table.specs.Inside.Steps.{done, all_done, HasRoom, HaveRoom};
@@ -66,6 +66,13 @@ impl RamTable {
             pages: Vec::new(alloc),
             count: 0,
         }
+    }
+
+    /// The law of tables: their records are in the order of their keys.
+    pub fn order_law(&self)
+        ensures { IsInOrder (contents self.now) }
+    {
+        let _ = &self.pages;
     }
 
     /// How many records there are.

@@ -203,7 +203,7 @@ pub fn play_to_reply(
     let Some(last) = told.replies.len().checked_sub(1) else {
         return Ok(begun);
     };
-    match outcome.marks.get(last) {
+    match outcome.marks.get(last as u64) {
         Some(mark) => Ok(mark.clock),
         None => Err(Trouble::ill(alloc, line, "the run ended before")),
     }
