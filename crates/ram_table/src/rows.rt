@@ -1,7 +1,9 @@
 //! Where a key or a record is among records.
 
-ghost use Rattle.std.specs.Prelude.{◌≡◌, ◌<◌, drop, length, IfSome, IfNone};
+ghost use Rattle.std.specs.Prelude.{◌≡◌, ◌<◌, ◌≤◌, true, drop, length, slice_index_or, IfSome, IfNone};
+ghost use Rattle.std.specs.Ordering.{is_gt};
 ghost use Rattle.term_core.specs.View.{tree_of};
+ghost use Rattle.term_core.specs.declared.term.Term.{Term};
 ghost use Rattle.ram_table.specs.Inside.Rows.{key_cmp, row_key, row_cmp, IsOrdered};
 ghost use Rattle.ram_table.specs.Inside.Pages.{IsLowerBound, IsUpperBound, starts_tied, starts_same, IsCut, IsOneKey};
 
@@ -58,12 +60,25 @@ pub fn key_start(rows: &[Term], key: &Term) -> usize
     low
 }
 
+/// A place at which the records are above the key, or all of them where none is found. It is the second one mostly,
+/// as of records from a key on.
+fn place_above(rows: &[Term], key: &Term) -> usize
+    ensures within { result ≤ length rows.now }
+    ensures above { (d : Term) → result < length rows.now
+        → is_gt (key_cmp (tree_of key.now) (slice_index_or rows.now result d)) ≡ true }
+{
+    match rows.get(1) {
+        Some(second) if key_cmp(second, key).is_gt() => 1,
+        _ => rows.len(),
+    }
+}
+
 /// How many of the records are not above the key.
 pub fn key_end(rows: &[Term], key: &Term) -> usize
     ensures { IsUpperBound (key_cmp (tree_of key.now)) rows.now result }
 {
     let mut low = 0;
-    let mut high = rows.len();
+    let mut high = place_above(rows, key);
     while low < high {
         let middle = low + (high - low) / 2;
         if key_cmp(&rows[middle], key).is_gt() {
