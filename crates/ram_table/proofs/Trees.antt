@@ -84,6 +84,10 @@ own_key x h = by (key_of (tree_of x)) h
     by None h = absurd cc
     by (Some own) h = refl
 
+pub keyed_trees : (rows : List Term) → AreKeyed rows → Each (λ row. IsSome (key_of row)) (map tree_of rows)
+keyed_trees [] a = tt
+keyed_trees (x ∷ rows) a = (a.0, keyed_trees rows a.1)
+
 -- ---- reads
 
 pub read_trees : (k : Tree) (rows : List Term) → AreKeyed rows → map tree_of (at k rows) ≡ records_of k (map tree_of rows)

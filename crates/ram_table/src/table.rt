@@ -1,9 +1,10 @@
 //! Tables, and plans of what is done to them.
 
 ghost use Rattle.std.specs.Prelude.{◌≡◌, ◌+◌, ◌<◌, ◌≤◌, [], ◌∷◌, ◌++◌, length, map, vec_len, vec_capacity};
-ghost use Rattle.std.specs.Prelude.{IfOk, OnOk, OnErr, IfSome};
+ghost use Rattle.std.specs.Prelude.{IfOk, OnOk, OnErr, IfSome, IsSome};
 ghost use Rattle.std.specs.List.{AllByRecursion};
 ghost use Rattle.std.specs.Option.{option_map, option_copied};
+ghost use Rattle.term_core.specs.Tree.{key_of};
 ghost use Rattle.term_core.specs.View.{tree_of};
 ghost use Rattle.db_model.specs.Database.{records_of, put_op};
 ghost use Rattle.db_model.specs.View.{operation};
@@ -73,6 +74,19 @@ impl RamTable {
         ensures { IsInOrder (contents self.now) }
     {
         let _ = &self.pages;
+    }
+
+    /// The law of keys: each record has one.
+    pub fn key_law(&self)
+        ensures { AllByRecursion (λ row. IsSome (key_of row)) (contents self.now) }
+    {
+        let _ = &self.pages;
+    }
+
+    pub fn kind(&self) -> Kind
+        ensures { result ≡ self.now.kind }
+    {
+        self.kind
     }
 
     /// How many records there are.
