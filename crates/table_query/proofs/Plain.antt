@@ -1,7 +1,7 @@
 -- Patterns without wildcards and variables.
-use Rattle.std.proofs.Common.{◌≡◌, ◌↔◌, Bool, true, false, refl, sym, ap, subst}
+use Rattle.std.proofs.Common.{◌≡◌, ◌↔◌, ◌∙◌, Bool, true, false, Some, refl, sym, ap, subst}
 use Rattle.std.specs.Prelude.{MatchBool, ⊤}
-use Rattle.term_core.specs.Tree.{Tree, int, atom, tuple, list, bin, Trees, no_trees, tree}
+use Rattle.term_core.specs.Tree.{Tree, int, atom, tuple, list, bin, Trees, no_trees, tree, key_of}
 use Rattle.table_query.specs.Patterns.{Assignment, is_wildcard, is_variable, IsMatch, AreMatches, Matches, AllAtomsOf, IsPlain}
 
 last_choice : (wildcard variable : Bool) (P Q : Type 0) → wildcard ≡ false → variable ≡ false
@@ -10,7 +10,7 @@ last_choice true variable P Q w v = absurd cc
 last_choice false true P Q w v = absurd cc
 last_choice false false P Q w v = (λ q. q, λ q. q)
 
-abbrev ArePlain : Trees → Type 0
+abbrev pub ArePlain : Trees → Type 0
 ArePlain ps = AllAtomsOf (λ name. (is_wildcard name ≡ false) × (is_variable name ≡ false)) ps
 
 mutual
@@ -56,3 +56,24 @@ plain_is p t plain = (
   λ (a, h). only_itself a p t plain h,
   λ same. (atom, subst (IsMatch atom p) (sym same) (itself atom p plain)),
 )
+
+-- what matches a pattern whose key is such has that key
+key_is : (a : Assignment) (p t key : Tree) → key_of p ≡ Some key → IsPlain key → IsMatch a p t → key_of t ≡ Some key
+key_is a (int n) t key is plain h = absurd cc
+key_is a (atom name) t key is plain h = absurd cc
+key_is a (list ps) t key is plain h = absurd cc
+key_is a (bin b) t key is plain h = absurd cc
+key_is a (tuple no_trees) t key is plain h = absurd cc
+key_is a (tuple (tree first no_trees)) t key is plain h = absurd cc
+key_is a (tuple (tree first (tree own others))) (int n) key is plain h = absurd h
+key_is a (tuple (tree first (tree own others))) (atom name) key is plain h = absurd h
+key_is a (tuple (tree first (tree own others))) (list ts) key is plain h = absurd h
+key_is a (tuple (tree first (tree own others))) (bin b) key is plain h = absurd h
+key_is a (tuple (tree first (tree own others))) (tuple no_trees) key is plain h = absurd h
+key_is a (tuple (tree first (tree own others))) (tuple (tree one no_trees)) key is plain h = absurd h.1
+key_is a (tuple (tree first (tree own others))) (tuple (tree one (tree other more))) key is plain h =
+    let same : own ≡ key = cc in
+    ap Some (only_itself a own other (subst IsPlain (sym same) plain) h.1.0 ∙ same)
+
+pub bound_is : (p t key : Tree) → key_of p ≡ Some key → IsPlain key → Matches p t → key_of t ≡ Some key
+bound_is p t key is plain (a, h) = key_is a p t key is plain h

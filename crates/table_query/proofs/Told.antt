@@ -1,6 +1,6 @@
 -- What the values that a match finds say: with which assignments the tree matches.
 use Rattle.std.proofs.Common.{◌≡◌, ◌⊎◌, ◌↔◌, inl, inr, refl, sym, ap, subst, ◌∙◌}
-use Rattle.std.proofs.Common.{ℕ, Bool, true, false, List, [], ◌∷◌, ◌++◌, Option, Some, None}
+use Rattle.std.proofs.Common.{ℕ, Bool, true, false, List, [], ◌∷◌, ◌++◌, Option, Some, None, is_some}
 use Rattle.std.specs.Prelude.{IsTrue, MatchBool, ⊤, if◌then◌else◌}
 use Rattle.std.specs.Cmp.{Equal-is, eq_by_cmp_equiv}
 use Rattle.std.specs.Cmp.Lexicographic.{slice_cmp, nat_list_cmp_total}
@@ -12,6 +12,7 @@ use Rattle.term_core.specs.Order.{same_tree, same_tree_is}
 use Rattle.term_core.specs.Tree.{Tree, int, atom, tuple, list, bin, Trees, no_trees, tree}
 use Rattle.table_query.specs.Patterns.{Assignment, is_wildcard, is_variable, IsMatch, AreMatches, Matches}
 use Rattle.table_query.specs.Values.{Values, value_of, same_name, values_if, with_value, atom_values, values_after, all_values_after}
+use Rattle.table_query.specs.Values.{is_match}
 
 -- each variable stands for its value
 abbrev pub Keeps : Assignment → Values → Type 0
@@ -187,3 +188,16 @@ told p t = by (values_after p t []) refl
     by : (found : Option Values) → values_after p t [] ≡ found → Matches p t ⊎ (Matches p t → ⊥)
     by None is = inr (found_none p t is)
     by (Some values) is = inl (found_some p t values is)
+
+-- the test of a match tells it
+pub test_tells : (p t : Tree) → IsTrue (is_match p t) ↔ Matches p t
+test_tells p t = by (values_after p t []) refl
+  where
+    by : (found : Option Values) → values_after p t [] ≡ found → IsTrue (is_some found) ↔ Matches p t
+    by None is = (λ wrong. absurd cc, λ matched. absurd (found_none p t is matched))
+    by (Some values) is = (λ _. found_some p t values is, λ _. refl)
+
+pub found_test : (p t : Tree) (found : Bool) (values old : Values) → old ≡ [] → values_if found values ≡ values_after p t old
+    → found ≡ is_match p t
+found_test p t true values old empty is = ap is_some (is ∙ ap (values_after p t) empty)
+found_test p t false values old empty is = ap is_some (is ∙ ap (values_after p t) empty)

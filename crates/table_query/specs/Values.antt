@@ -1,5 +1,5 @@
--- The values of variables, as a match finds them from left to right. Only this crate's own calls cite this.
-use Rattle.std.specs.Prelude.{ℕ, Bool, true, false, if◌then◌else◌, List, [], ◌∷◌, ◌++◌, map, Option, None, Some}
+-- The values of variables, as a match finds them from left to right, and the test that comes of it.
+use Rattle.std.specs.Prelude.{ℕ, Bool, true, false, if◌then◌else◌, List, [], ◌∷◌, ◌++◌, map, Option, None, Some, is_some}
 use Rattle.std.specs.Cmp.Lexicographic.{slice_cmp}
 use Rattle.std.specs.Option.{option_and_then}
 use Rattle.std.specs.Ordering.{nat_cmp, eq_by_cmp}
@@ -59,3 +59,7 @@ abbrev mutual
   all_values_after no_trees (tree t ts) values = None
   all_values_after (tree p ps) no_trees values = None
   all_values_after (tree p ps) (tree t ts) values = option_and_then (all_values_after ps ts) (values_after p t values)
+
+-- the tree matches the pattern
+abbrev pub is_match : Tree → Tree → Bool
+is_match pattern t = is_some (values_after pattern t [])

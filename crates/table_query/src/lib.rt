@@ -4,10 +4,12 @@
 #![tactic(auto)]
 
 mod atoms;
+mod bound;
 mod laws;
 mod matching;
 
-pub use laws::pattern_law;
+pub use bound::bound_key;
+pub use laws::{bound_key_law, pattern_law};
 pub use matching::matches;
 
 #[cfg(test)]

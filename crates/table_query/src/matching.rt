@@ -5,6 +5,7 @@ ghost use Rattle.std.specs.Option.{option_map, option_copied};
 ghost use Rattle.term_core.specs.View.{tree_of, forest_of};
 ghost use Rattle.table_query.specs.Patterns.{is_variable, AllAtomsOf, HasNoVariable, Matches};
 ghost use Rattle.table_query.specs.Values.{values_of, value_of, values_if, with_value, values_after, all_values_after};
+ghost use Rattle.table_query.specs.Values.{is_match};
 
 use crate::atoms::{is_variable, is_wildcard};
 use std::alloc::{AllocError, Global};
@@ -26,6 +27,7 @@ struct Value<'a> {
 /// It fails only where memory runs out, which it takes for the values of variables alone.
 pub fn matches(alloc: Global, pattern: &Term, rec: &Term) -> Result<bool, AllocError>
     ensures matches { IfOk result (λ found. IsTrue found ↔ Matches (tree_of pattern.now) (tree_of rec.now)) }
+    ensures test { IfOk result (λ found. found ≡ is_match (tree_of pattern.now) (tree_of rec.now)) }
     ensures no_memory { HasNoVariable (tree_of pattern.now) → IsOk result }
 {
     let mut values = Vec::new(alloc);

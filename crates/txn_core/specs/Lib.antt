@@ -1,0 +1,11 @@
+pub mod Calls
+pub mod Locks
+pub mod Pending
+pub mod Refusals
+pub mod Machine
+pub mod Serial
+pub mod Sound
+pub mod Held
+pub mod Requests
+pub mod Entries
+pub mod Shown

@@ -1,0 +1,4 @@
+pub mod Seen
+pub mod Places
+pub mod Replays
+pub mod Walks
