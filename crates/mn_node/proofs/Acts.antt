@@ -26,6 +26,7 @@ use Rattle.db_model.specs.Lawful as databases
 use Rattle.db_model.specs.Lawful.{IsLawful}
 use Rattle.db_model.proofs.Commitments.{stays_sound, lawful_taken}
 use Rattle.db_state.specs.Live.{database}
+use Rattle.txn_core.specs.Pending.{Txn}
 use Rattle.txn_log.specs.Commits.{AreCommits, AreItemsOf}
 use Rattle.txn_log.specs.Logs.{LogState, handle, Reads, TxnStands, HasFirst, Leaves, IsLogName}
 use Rattle.mn_node.specs.Calls.{Calls}
@@ -370,7 +371,8 @@ tries_as {commits} {synced} {result} {live} {before} {now} e other is tries =
 
 -- the command is this one
 pub tries_asked : {commits : List CommitRecord} {synced : ℕ} {result : Result Done Trouble} {live : Open} {before now : Past}
-    (command one : code.Command) → command ≡ one → Tries (effect (made commits) (asked one)) commits synced result live before now
-    → Tries (effect (made commits) (asked command)) commits synced result live before now
-tries_asked {commits} {synced} {result} {live} {before} {now} command one is tries =
-    subst (λ c. Tries (effect (made commits) (asked c)) commits synced result live before now) (sym is) tries
+    (pending : List Txn) (command one : code.Command) → command ≡ one → Tries (effect (made commits) pending (asked one)) commits synced
+    result live before now
+    → Tries (effect (made commits) pending (asked command)) commits synced result live before now
+tries_asked {commits} {synced} {result} {live} {before} {now} pending command one is tries =
+    subst (λ c. Tries (effect (made commits) pending (asked c)) commits synced result live before now) (sym is) tries

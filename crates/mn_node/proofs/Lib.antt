@@ -14,3 +14,7 @@ pub mod NodeSteps
 pub mod Owed
 pub mod Prefixes
 pub mod Refusals
+pub mod TxnOutcomes
+pub mod TxnCommands
+pub mod TxnCommits
+pub mod TxnKept

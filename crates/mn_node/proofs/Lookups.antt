@@ -3,7 +3,7 @@ use Rattle.std.proofs.Common.{◌≡◌, ℕ, List, [], ◌∷◌, length, map, 
 use Rattle.std.specs.Borrow.{Bor}
 use Rattle.std.specs.Option.{option_map, option_copied}
 use Rattle.std.specs.Result.{IsErrAnd}
-use Rattle.std.specs.Prelude.{Result, Ok, IsTrue, IsSomeAnd}
+use Rattle.std.specs.Prelude.{Result, Ok, IsTrue, IsSome, IsSomeAnd}
 use Rattle.sqlite_items.specs.declared.items.Items.{Items}
 use Rattle.term_core.specs.Tree.{Tree, atom}
 use Rattle.term_core.specs.View.{tree_of}
@@ -18,8 +18,10 @@ use Rattle.db_model.specs.View.{definition}
 use Rattle.db_model.specs.declared.definition.Kind.{Kind}
 use Rattle.db_model.specs.declared.definition.TableDef.{TableDef}
 use Rattle.db_state.specs.Live.{database, definition_of, table_shown}
+use Rattle.txn_core.specs.Calls as calls
+use Rattle.txn_core.specs.Pending.{Txn}
 use Rattle.mn_node.specs.Durable.{made}
-use Rattle.mn_node.specs.Effects.{Effect, finds, no_table, get_effect, name_tree, info_of, options_of, info_effect}
+use Rattle.mn_node.specs.Effects.{Effect, finds, no_table, unless_held, holder_for, get_effect, name_tree, info_of, options_of, info_effect}
 use Rattle.mn_node.specs.Inside.Tries.{Tries}
 use Rattle.mn_node.specs.Shown.{OpenShows}
 use Rattle.mn_node.specs.declared.open.Done.{Done}
@@ -68,6 +70,11 @@ pub some_and : (P : Table → Type 0) (found : Option Table) → IsSomeAnd found
 some_and P None h = absurd h
 some_and P (Some table) h = (table, refl, h)
 
+-- a table that was found under another name of the same look-up is there
+pub some_there : {found known : Option Table} {P : Table → Type 0} → found ≡ known → (table : Table) × (found ≡ Some table) × P table
+    → IsSome known
+some_there {found} {known} {P} same (table, is, holds) = subst (λ (o : Option Table). IsSome o) (sym is ∙ same) refl
+
 -- ---- names
 
 pub names_same : (defs : List TableDef) (tables : List Table) → map definition defs ≡ map definition_of tables
@@ -101,31 +108,44 @@ module _ {live : Open} {past : Past} {commits : List CommitRecord} {synced : ℕ
       → table_in name base.tables ≡ None
   none_standing name h = unknown name base.tables (taken_named commits shown.taken) (λ named. sym (known_as name) ∙ h named)
 
-  pub get_unknown : (name : List ℕ) (key : Tree) (done : Done) → table_in name (database live.tables).tables ≡ None
+  pub get_unknown : (pending : List Txn) (name : List ℕ) (key : Tree) (done : Done) → table_in name (database live.tables).tables ≡ None
       → done ≡ record { reply = replies.NoTable name; wrote = false; settles = false; halts = false }
-      → Tries (get_effect (table_in name base.tables) name key) commits synced (Ok done) live past past
-  get_unknown name key done none told =
+      → Tries (get_effect (table_in name base.tables) pending name key) commits synced (Ok done) live past past
+  get_unknown pending name key done none told =
       only_told shown _ (replies.NoTable name) done
-      (refuses_answered _ (no_table name) (ap (λ (f : Option Table). get_effect f name key) (sym (known_as name) ∙ none))) told
+      (refuses_answered _ (no_table name) (ap (λ (f : Option Table). get_effect f pending name key) (sym (known_as name) ∙ none))) told
 
-  get_is : (name : List ℕ) (key : Tree) (table : Table) → table_in name (database live.tables).tables ≡ Some table
-      → get_effect (table_in name base.tables) name key ≡ finds (records_of key table.contents)
-  get_is name key table is = ap (λ (f : Option Table). get_effect f name key) (sym (known_as name) ∙ is)
+  pub get_held : (pending : List Txn) (name : List ℕ) (key : Tree) (table : Table) → table_in name (database live.tables).tables ≡ Some
+      table
+      → (by : Option (List ℕ)) → holder_for (calls.read name key) pending ≡ by
+      → get_effect (table_in name base.tables) pending name key ≡ unless_held by (finds (records_of key table.contents))
+  get_held pending name key table is by held =
+      ap (λ (f : Option Table). get_effect f pending name key) (sym (known_as name) ∙ is)
+      ∙ ap (λ (h : Option (List ℕ)). unless_held h (finds (records_of key table.contents))) held
 
-  pub get_known : (name : List ℕ) (key : Tree) (table : Table) (rows : List Term) (found : Items Term) (done : Done)
-      → table_in name (database live.tables).tables ≡ Some table → map tree_of rows ≡ records_of key table.contents
+  get_is : (pending : List Txn) (name : List ℕ) (key : Tree) (table : Table) → table_in name (database live.tables).tables ≡ Some table
+      → holder_for (calls.read name key) pending ≡ None
+      → get_effect (table_in name base.tables) pending name key ≡ finds (records_of key table.contents)
+  get_is pending name key table is free =
+      ap (λ (f : Option Table). get_effect f pending name key) (sym (known_as name) ∙ is)
+      ∙ ap (λ (h : Option (List ℕ)). unless_held h (finds (records_of key table.contents))) free
+
+  pub get_known : (pending : List Txn) (name : List ℕ) (key : Tree) (table : Table) (rows : List Term) (found : Items Term) (done : Done)
+      → table_in name (database live.tables).tables ≡ Some table → holder_for (calls.read name key) pending ≡ None
+      → map tree_of rows ≡ records_of key table.contents
       → map tree_of found ≡ map tree_of rows
       → done ≡ record { reply = replies.Found found; wrote = false; settles = false; halts = false }
-      → Tries (get_effect (table_in name base.tables) name key) commits synced (Ok done) live past past
-  get_known name key table rows found done is read copied told =
-      found_terms shown (records_of key table.contents) _ found done (get_is name key table is) told (copied ∙ read)
+      → Tries (get_effect (table_in name base.tables) pending name key) commits synced (Ok done) live past past
+  get_known pending name key table rows found done is free read copied told =
+      found_terms shown (records_of key table.contents) _ found done (get_is pending name key table is free) told (copied ∙ read)
 
-  pub get_wants : (name : List ℕ) (key : Tree) (table : Table) (rows : List Term) (result : Result Done Trouble)
-      → table_in name (database live.tables).tables ≡ Some table → map tree_of rows ≡ records_of key table.contents
+  pub get_wants : (pending : List Txn) (name : List ℕ) (key : Tree) (table : Table) (rows : List Term) (result : Result Done Trouble)
+      → table_in name (database live.tables).tables ≡ Some table → holder_for (calls.read name key) pending ≡ None
+      → map tree_of rows ≡ records_of key table.contents
       → (map tree_of rows ≡ [] → ⊥) → IsErrAnd result (λ trouble. trouble ≡ Memory)
-      → Tries (get_effect (table_in name base.tables) name key) commits synced result live past past
-  get_wants name key table rows result is read some wanted =
-      none_tried shown _ result (subst (λ (e : Effect). IsTrue e.takes_memory) (sym (get_is name key table is))
+      → Tries (get_effect (table_in name base.tables) pending name key) commits synced result live past past
+  get_wants pending name key table rows result is free read some wanted =
+      none_tried shown _ result (subst (λ (e : Effect). IsTrue e.takes_memory) (sym (get_is pending name key table is free))
       (has_some (records_of key table.contents) (λ none. some (read ∙ none)))) wanted
 
   names_are : (defs : List TableDef) → map definition defs ≡ map definition_of (database live.tables).tables

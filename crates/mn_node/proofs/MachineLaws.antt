@@ -1,8 +1,9 @@
 -- Laws over the machine's steps, by choice and not by command.
 use Rattle.std.proofs.Common.{◌≡◌, ℕ, ◌≤◌, Bool, true, false, if◌then◌else◌, List, ◌++◌, length, refl, sym, ap, ◌∙◌, subst, inl, inr, arith, length-append}
 use Rattle.mn_node.specs.Durable.{Entry}
-use Rattle.mn_node.specs.Effects.{Command, stop, Answer, Effect, effect}
-use Rattle.mn_node.specs.Machine.{Machine, Event, start, command, refused, turn, end, IsAlive, ruined, Choice, as_asked, out_of_memory, failed, now_of, entries_of, Comes, ComesUp, Boots, Does, Step, Change}
+use Rattle.mn_node.specs.Effects.{Command, stop, Answer, Effect}
+use Rattle.txn_core.specs.Pending.{Txn}
+use Rattle.mn_node.specs.Machine.{Machine, Event, start, command, refused, turn, end, IsAlive, ruined, Choice, as_asked, out_of_memory, failed, effect_here, pending_behind, entries_of, Comes, ComesUp, Boots, Does, Step, Change}
 use Rattle.mn_node.specs.Meaning.{Meaning, stands, broken}
 
 -- ---- what is synced is there
@@ -18,17 +19,18 @@ sane_least : (settles : Bool) (entries : List Entry) (least : ℕ) → least ≤
 sane_least true entries least h = omega arith
 sane_least false entries least h = h
 
-sane_comes : (choice : Choice) (e : Effect) (old : Machine) (answer : Answer) (new : Machine) → Comes choice e old answer new → IsSane old
-    → IsSane new
-sane_comes as_asked e old answer new (told, is) h =
+sane_comes : (choice : Choice) (e : Effect) (pending : List Txn) (old : Machine) (answer : Answer) (new : Machine)
+    → Comes choice e pending old answer new → IsSane old → IsSane new
+sane_comes as_asked e pending old answer new (told, is) h =
     let all : List Entry = old.entries ++ entries_of e.entry in
     subst IsSane (sym is) (sane_least e.settles all old.synced (omega (arith, h, length-append old.entries (entries_of e.entry))))
-sane_comes out_of_memory e old answer new (told, is) h = sane_like old new is h
-sane_comes (failed name) e old answer new (told, is) h =
+sane_comes out_of_memory e pending old answer new (told, is) h = sane_like old new is h
+sane_comes (failed name) e pending old answer new (told, is) h =
     subst IsSane (sym is) (omega (arith, h, length-append old.entries (entries_of e.entry)))
 
 sane_does : (c : Command) (old : Machine) (answer : Answer) (new : Machine) → Does c old answer new → IsSane old → IsSane new
-sane_does c old answer new (inl (up, choice, may, comes)) h = sane_comes choice (effect (now_of old) c) old answer new comes h
+sane_does c old answer new (inl (up, choice, may, comes)) h =
+    sane_comes choice (effect_here old c) (pending_behind old c) old answer new comes h
 sane_does c old answer new (inr (down, (told, is))) h = sane_like old new is h
 
 sane_boots : (base : Meaning) (old : Machine) (answer : Answer) (new : Machine) → Boots base old answer new → IsSane old → IsSane new
@@ -50,14 +52,15 @@ sane old end answer new does h = sane_does stop old answer new does h
 
 -- ---- the base changes only at a start
 
-same_comes : (choice : Choice) (e : Effect) (old : Machine) (answer : Answer) (new : Machine) → Comes choice e old answer new
-    → new.base ≡ old.base
-same_comes as_asked e old answer new (told, is) = ap (λ (m : Machine). m.base) is
-same_comes out_of_memory e old answer new (told, is) = ap (λ (m : Machine). m.base) is
-same_comes (failed name) e old answer new (told, is) = ap (λ (m : Machine). m.base) is
+same_comes : (choice : Choice) (e : Effect) (pending : List Txn) (old : Machine) (answer : Answer) (new : Machine)
+    → Comes choice e pending old answer new → new.base ≡ old.base
+same_comes as_asked e pending old answer new (told, is) = ap (λ (m : Machine). m.base) is
+same_comes out_of_memory e pending old answer new (told, is) = ap (λ (m : Machine). m.base) is
+same_comes (failed name) e pending old answer new (told, is) = ap (λ (m : Machine). m.base) is
 
 same_does : (c : Command) (old : Machine) (answer : Answer) (new : Machine) → Does c old answer new → new.base ≡ old.base
-same_does c old answer new (inl (up, choice, may, comes)) = same_comes choice (effect (now_of old) c) old answer new comes
+same_does c old answer new (inl (up, choice, may, comes)) =
+    same_comes choice (effect_here old c) (pending_behind old c) old answer new comes
 same_does c old answer new (inr (down, (told, is))) = ap (λ (m : Machine). m.base) is
 
 pub same_base : (old : Machine) (event : Event) (answer : Answer) (new : Machine) → Change old event answer new → (event ≡ start → ⊥)

@@ -49,7 +49,7 @@ dropped keep (t ∷ ts) named = by (keep t) (dropped keep ts named.1)
     by true rest = (named.0, rest)
     by false rest = rest
 
-schema_op_named : (op : SchemaOperation) (tables : List Table) → Applies op tables → AreNamed tables → AreNamed (do_schema_op op tables)
+pub schema_op_named : (op : SchemaOperation) (tables : List Table) → Applies op tables → AreNamed tables → AreNamed (do_schema_op op tables)
 schema_op_named (create definition) tables applies named = added (empty_table definition) applies.0.named tables named
 schema_op_named (drop_table name) tables applies named = dropped (λ table. not (is_called name table)) tables named
 schema_op_named (add_index name position) tables applies named = changed name (indexed position) (λ table is. is) tables named

@@ -11,7 +11,7 @@ use Rattle.mn_node.specs.Inside.Loads.{start_answer, down_node, up_node}
 use Rattle.mn_node.specs.Inside.Tries.{StaysLog, counted, failed_node, failed_answer}
 use Rattle.mn_node.specs.Effects.{Answer, is_fault, fault, no_memory, started, damaged}
 use Rattle.mn_node.specs.Seen.{answer}
-use Rattle.mn_node.specs.Shown.{HasLogOf, IsWhole, CountsFew, IsFew}
+use Rattle.mn_node.specs.Shown.{HasLogOf, HasPending, IsWhole, CountsFew, IsFew}
 use Rattle.mn_node.specs.declared.node.Node.{Node}
 use Rattle.mn_node.specs.declared.node.State.{State}
 use Rattle.mn_node.specs.declared.node.State.TheVariants.{Up}
@@ -73,10 +73,10 @@ module _ (tells : Bool) (before now : ℕ) (blamed : List (List ℕ)) (past_befo
   module _ {T : Type 0} (live live_new : Open) (up : node.state ≡ Up live) (more : live_new.log.commits ≤ live.log.commits + 1)
       (touched : IsTrue tells → Touches IsLogName past_before past) where
     by_trouble : (trouble : Trouble) → Calls before now blamed (FailedAt {T = T} (Err trouble))
-        → (IsTrue tells → StaysLog (Err trouble) past live_new.log)
+        → (IsTrue tells → StaysLog (Err trouble) past live_new.log) → (trouble ≡ Memory → HasPending live_new)
         → Owes tells before now blamed past_before past node (failed_node (record node { state = Up live_new }) trouble)
         (failed_answer trouble)
-    by_trouble Memory calls log = record {
+    by_trouble Memory calls log pends = record {
       calls = none_failed before now blamed no_memory refl calls.later (calls.answered (λ name at. absurd (cc at.1)));
       faulted = λ name is. absurd (cc is);
       down = λ faulted. absurd faulted;
@@ -86,9 +86,9 @@ module _ (tells : Bool) (before now : ℕ) (blamed : List (List ℕ)) (past_befo
         commits = up_few live live_new n more (subst (λ (s : State). CountsFew s n) up few.commits);
         entries = omega (arith, few.entries);
       };
-      whole = λ no_damage. tt;
+      whole = λ no_damage. pends refl;
     }
-    by_trouble (File name doubt) calls log = record {
+    by_trouble (File name doubt) calls log pends = record {
       calls = one_failed before now blamed name (FailedAt {T = T} (Err (File name doubt))) (doubt, refl) calls;
       faulted = λ other is. tt;
       touches = touched;
@@ -101,11 +101,12 @@ module _ (tells : Bool) (before now : ℕ) (blamed : List (List ℕ)) (past_befo
     pub failed_owes : (trouble : Trouble) (given : Answer) (left : Node) → given ≡ failed_answer trouble
         → left ≡ failed_node (record node { state = Up live_new }) trouble
         → Calls before now blamed (FailedAt {T = T} (Err trouble)) → (IsTrue tells → StaysLog (Err trouble) past live_new.log)
+        → (trouble ≡ Memory → HasPending live_new)
         → Owes tells before now blamed past_before past node left given
-    failed_owes trouble given left given_is left_is calls log =
+    failed_owes trouble given left given_is left_is calls log pends =
         subst (Owes tells before now blamed past_before past node left) (sym given_is)
         (subst (λ n. Owes tells before now blamed past_before past node n (failed_answer trouble)) (sym left_is)
-        (by_trouble trouble calls log))
+        (by_trouble trouble calls log pends))
 
   -- ---- a start
 
@@ -114,16 +115,16 @@ module _ (tells : Bool) (before now : ℕ) (blamed : List (List ℕ)) (past_befo
 
   start_owes : (live : Open) (count : ℕ) (given : Answer) → given ≡ started count → before ≤ now → now ≡ before
       → (IsTrue tells → Touches IsLogName past_before past)
-      → (IsTrue tells → IsLog past (handle live.log)) → live.log.commits < 2 ^ 63
+      → (IsTrue tells → IsLog past (handle live.log)) → live.log.commits < 2 ^ 63 → HasPending live
       → Owes tells before now blamed past_before past node (up_node live) given
-  start_owes live count given given_is later same touched log commits = record {
+  start_owes live count given given_is later same touched log commits pends = record {
     calls = none_failed before now blamed given (ap is_fault given_is) later same;
     faulted = λ name is. absurd (cc (given_is, is));
     down = λ faulted. absurd faulted;
     touches = touched;
     log = log;
     few = λ n few. record { commits = omega (arith, commits); entries = omega arith };
-    whole = λ no_damage. tt;
+    whole = λ no_damage. pends;
   }
 
   -- as many are told as were kept, or none before the first
@@ -136,12 +137,12 @@ module _ (tells : Bool) (before now : ℕ) (blamed : List (List ℕ)) (past_befo
   pub booted_owes : (live : Open) (reply : Reply) (left : Node) → left ≡ up_node live → (node.base ≡ None → reply ≡ Started 0)
       → ((n : ℕ) → node.base ≡ Some n → reply ≡ Started (live.log.commits - n))
       → before ≤ now → now ≡ before → (IsTrue tells → Touches IsLogName past_before past) → (IsTrue tells → IsLog past (handle live.log))
-      → live.log.commits < 2 ^ 63
+      → live.log.commits < 2 ^ 63 → HasPending live
       → Owes tells before now blamed past_before past node left (answer reply)
-  booted_owes live reply left left_is at_first later since same touched log commits =
+  booted_owes live reply left left_is at_first later since same touched log commits pends =
       let told = told_count reply node.base refl live at_first later in
       subst (λ n. Owes tells before now blamed past_before past node n (answer reply)) (sym left_is)
-      (start_owes live told.0 (answer reply) told.1 since same touched log commits)
+      (start_owes live told.0 (answer reply) told.1 since same touched log commits pends)
 
   module _ {T : Type 0} (touched : IsTrue tells → Touches IsLogName past_before past) where
     by_error : (error : StartErr) → Calls before now blamed (StartFailedAt {T = T} (Err error))

@@ -16,7 +16,7 @@ use Rattle.mn_node.specs.Inside.Loads.{FailsBroken, start_answer, down_node, up_
 use Rattle.mn_node.specs.Effects.{Answer, is_no_memory, started, no_memory, fault, damaged, is_up, stop}
 use Rattle.mn_node.specs.Machine.{start, command, end, commits_of, Life, running, faulted, starved, ruined, runs, IsAlive, Machine, durable_of, with_life, booted, as_asked, out_of_memory, failed, Boots, Change, LeavesAs, Leaves, entries_if, added}
 use Rattle.mn_node.specs.Meaning.{Files, latest, Meaning, stands, broken, AreTaken, Stands, IsBroken, Means, IsPrefixOf}
-use Rattle.mn_node.specs.Shown.{OpenShows, IsHistory, ShowsLife, HasKept, HasLog, CountsBase, Shows, StaysSound, Steps, IsWhole}
+use Rattle.mn_node.specs.Shown.{OpenShows, Pends, IsHistory, ShowsLife, HasKept, HasLog, CountsBase, Shows, StaysSound, Steps, IsWhole}
 use Rattle.mn_node.specs.declared.node.Node.{Node}
 use Rattle.mn_node.specs.declared.node.State.{State}
 use Rattle.mn_node.specs.declared.node.State.TheVariants.{Up, Faulted, Starved, Ruined}
@@ -125,7 +125,7 @@ module _ (first before now : Past) (node : Node) (machine : Machine) (whole : Is
 
     -- ---- it comes up
 
-    module _ (live : Open) (shows : OpenShows live now commits (length commits))
+    module _ (live : Open) (pends : Pends live []) (shows : OpenShows live now commits (length commits))
         (moments : Moments (OldOrCommits before commits) before now) (stays : StaysSound before now)
         (touches : Touches IsLogName before now) where
       abbrev new : Machine
@@ -164,7 +164,7 @@ module _ (first before now : Past) (node : Node) (machine : Machine) (whole : Is
         };
         shows = record {
           earlier = commits;
-          life = record { running = refl; begun = refl; sure = refl; shows = up_shown };
+          life = record { running = refl; begun = refl; sure = refl; shows = up_shown; pends = pends };
           base = (refl, ap (λ (u : Durable). stands u) after_is, shows.log.count);
           entries = refl;
           synced = refl;
@@ -213,11 +213,11 @@ module _ (first before now : Past) (node : Node) (machine : Machine) (whole : Is
 
   pub start_done : (live : Open) (answer : Answer) → (node.base ≡ None → answer ≡ started 0)
       → ((base : ℕ) → node.base ≡ Some base → answer ≡ started (live.log.commits - base))
-      → (IsSound before latest → ComesUpWith live before now)
+      → Pends live [] → (IsSound before latest → ComesUpWith live before now)
       → LeavesOld before now
       → StaysSound before now → Touches IsLogName before now → ((name : List ℕ) (at : ℕ) → IsBroken (reads before) name at → ⊥)
       → Steps first machine start answer node (up_node live) before now
-  start_done live answer at_first later shows moments stays touches meaning = by machine.base refl h.log
+  start_done live answer at_first later pends shows moments stays touches meaning = by machine.base refl h.log
     where
       by : (base : Meaning) → machine.base ≡ base → HasLog base first before machine h.earlier
           → Steps first machine start answer node (up_node live) before now
@@ -225,7 +225,7 @@ module _ (first before now : Past) (node : Node) (machine : Machine) (whole : Is
           let all : List CommitRecord = h.earlier ++ commits_of k.kept in
           let history = kept_history w is k in
           let can = taken_all h.earlier k.kept history in
-          start_ups w is k live (shows sound all k.has can (sound_all h.earlier k.kept history)) (moments all k.has can) stays touches
+          start_ups w is k live pends (shows sound all k.has can (sound_all h.earlier k.kept history)) (moments all k.has can) stays touches
           answer at_first later
       by (broken name at) is (wrong, same) = absurd (meaning name at wrong)
 

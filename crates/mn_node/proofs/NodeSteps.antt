@@ -6,16 +6,17 @@ use Rattle.file_trait.proofs.Moments.{none_done, weaker, at_end}
 use Rattle.file_trait.proofs.Touched.{untouched}
 use Rattle.disk_logs.specs.Crash.{IsSound}
 use Rattle.db_model.specs.Commits.{CommitRecord}
+use Rattle.txn_core.specs.Pending.{Txn}
 use Rattle.txn_log.specs.Logs as logs
 use Rattle.txn_log.specs.Logs.{Reads, IsLogName}
 use Rattle.db_model.specs.Histories.{AreLawful}
 use Rattle.mn_node.specs.Durable.{Entry, Durable, after, made}
-use Rattle.mn_node.specs.Effects.{Command, Effect, Answer, is_no_memory, no_memory, fault, is_down, effect}
-use Rattle.mn_node.specs.Inside.Tries.{appended, IsDone, Tries, IsPlain, counted, settled_node, failed_node, failed_answer}
-use Rattle.mn_node.specs.Machine.{Event, command, commits_of, Life, running, halted, runs, IsAlive, Machine, durable_of, now_of, entries_of, with_effect, in_doubt, as_asked, out_of_memory, failed, LeavesAs, Leaves, HoldsClosed, entries_if, added}
+use Rattle.mn_node.specs.Effects.{Command, Effect, Answer, is_no_memory, no_memory, fault, is_down, effect, pending_after}
+use Rattle.mn_node.specs.Inside.Tries.{appended, durable, IsDone, Tries, PendsOut, IsPlain, counted, settled_node, failed_node, failed_answer}
+use Rattle.mn_node.specs.Machine.{Event, command, effect_here, pending_behind, commits_of, Life, running, halted, runs, IsAlive, Machine, durable_of, now_of, entries_of, with_effect, in_doubt, as_asked, out_of_memory, failed, LeavesAs, Leaves, HoldsClosed, entries_if, added}
 use Rattle.mn_node.specs.Meaning.{Files, latest, Meaning, stands, IsPrefixOf}
 use Rattle.mn_node.specs.Seen.{answer}
-use Rattle.mn_node.specs.Shown.{OpenShows, IsHistory, IsUp, ShowsLife, HasKept, HasLog, CountsBase, Shows, Steps, IsUpState, IsWhole}
+use Rattle.mn_node.specs.Shown.{OpenShows, Pends, HasPending, IsHistory, IsUp, ShowsLife, HasKept, HasLog, CountsBase, Shows, Steps, IsUpState, IsWhole}
 use Rattle.mn_node.specs.declared.node.Node.{Node}
 use Rattle.mn_node.specs.declared.node.State.{State}
 use Rattle.mn_node.specs.declared.node.State.TheVariants.{Unstarted, Up, Stopped, Faulted, Starved, Ruined}
@@ -84,6 +85,9 @@ module _ (first before now : Past) (node : Node) (live : Open) (machine : Machin
   pub up_shows : OpenShows live before log_commits log_synced
   up_shows = shown.shows
 
+  pub up_pends : Pends live machine.pending
+  up_pends = shown.pends
+
   is_running : machine.life ≡ running
   is_running = shown.running
 
@@ -103,13 +107,26 @@ module _ (first before now : Past) (node : Node) (live : Open) (machine : Machin
   now_is = made_behind earlier machine.entries history ∙ ap (λ (m : Meaning). after (durable_of m) machine.entries) (sym base_is)
 
   abbrev e : Effect
-  e = effect (now_of machine) c
+  e = effect_here machine c
+
+  -- what is pending behind it
+  abbrev pub later : List Txn
+  later = pending_behind machine c
 
   -- what was tried over these commits was tried over the machine's durable state
   pub tried_at : (result : Result Done Trouble) (new_live : Open)
-      → Tries (effect (made log_commits) c) log_commits log_synced result new_live before now
+      → Tries (effect (made log_commits) machine.pending c) log_commits log_synced result new_live before now
       → Tries e log_commits log_synced result new_live before now
-  tried_at result new_live t = subst (λ (w : Durable). Tries (effect w c) log_commits log_synced result new_live before now) now_is t
+  tried_at result new_live t =
+      subst (λ (w : Durable). Tries (effect w machine.pending c) log_commits log_synced result new_live before now) now_is t
+
+  -- what is pending behind it, over the machine's durable state
+  pub pends_at : (result : Result Done Trouble) (new_live : Open)
+      → PendsOut result new_live machine.pending (pending_after (durable live) machine.pending c)
+      → PendsOut result new_live machine.pending later
+  pends_at result new_live h =
+      let is : durable live ≡ now_of machine = ap (λ d. record { database = d }) up_shows.same ∙ now_is in
+      subst (λ (w : Durable). PendsOut result new_live machine.pending (pending_after w machine.pending c)) is h
 
   abbrev all : List Entry
   all = machine.entries ++ entries_of e.entry
@@ -195,9 +212,10 @@ module _ (first before now : Past) (node : Node) (live : Open) (machine : Machin
 
   -- ---- it was done
 
-  module _ (new_live : Open) (done : Done) (t : Tries e log_commits log_synced (Ok done) new_live before now) where
+  module _ (new_live : Open) (done : Done) (t : Tries e log_commits log_synced (Ok done) new_live before now)
+      (pends : done.halts ≡ false → Pends new_live later) where
     abbrev settled : Machine
-    settled = with_effect e machine
+    settled = with_effect e later machine
 
     is_done : IsDone e done
     is_done = t.out.0
@@ -220,11 +238,12 @@ module _ (first before now : Past) (node : Node) (live : Open) (machine : Machin
         standing_closed now new_live.log (earlier ++ commits_of all) (length earlier + settled.synced) settled_shows.log (t.out.2 halts)
         (now_of settled) settled_shows.taken is
 
-    settled_life : (halts : Bool) → halts ≡ e.halts → ShowsLife (if halts then Stopped else Up new_live) now settled earlier
-    settled_life true same = (ap (λ (b : Bool). if b then halted else running) (sym same), is_closed (sym same))
-    settled_life false same =
+    settled_life : (halts : Bool) → done.halts ≡ halts → halts ≡ e.halts → ShowsLife (if halts then Stopped else Up new_live) now settled
+        earlier
+    settled_life true is same = (ap (λ (b : Bool). if b then halted else running) (sym same), is_closed (sym same))
+    settled_life false is same =
         let runs_on : settled.life ≡ running = ap (λ (b : Bool). if b then halted else running) (sym same) in
-        record { running = runs_on; begun = is_begun; sure = shown.sure; shows = settled_shows }
+        record { running = runs_on; begun = is_begun; sure = shown.sure; shows = settled_shows; pends = pends is }
 
     settled_count : counted done.wrote node.entries ≡ length all
     settled_count = count_is e.entry done.wrote node.entries machine.entries is_done.wrote h.entries
@@ -236,7 +255,7 @@ module _ (first before now : Past) (node : Node) (live : Open) (machine : Machin
       step = record { alive = alive; change = inl (is_running, as_asked, tt, (is_done.answer, refl)) };
       shows = record {
         earlier = earlier;
-        life = settled_life done.halts is_done.halts;
+        life = settled_life done.halts refl is_done.halts;
         base = base_kept node.base machine settled earlier is_begun refl refl h.base;
         entries = settled_count;
         synced = synced_is done.settles e.settles (counted done.wrote node.entries) (length all) node.synced machine.synced is_done.settles
@@ -247,21 +266,21 @@ module _ (first before now : Past) (node : Node) (live : Open) (machine : Machin
       during = during (answer done.reply) plain.memory all_done t.during;
       sound = λ sound. t.sound;
       touches = t.touches;
-      number = λ n base is. absurd (starts_none (now_of machine) c n (sym is_done.answer ∙ is));
+      number = λ n base is. absurd (starts_none (now_of machine) machine.pending c n (sym is_done.answer ∙ is));
     }
 
   -- ---- memory was wanting
 
-  wanted_steps : (new_live : Open) → Tries e log_commits log_synced (Err Memory) new_live before now
+  wanted_steps : (new_live : Open) → Tries e log_commits log_synced (Err Memory) new_live before now → Pends new_live machine.pending
       → Steps first machine (command c) no_memory node (record node { state = Up new_live }) before now
-  wanted_steps new_live t =
+  wanted_steps new_live t pends =
       let shows : OpenShows new_live now log_commits log_synced = t.out.1 in
       record {
         new = machine;
         step = record { alive = alive; change = inl (is_running, out_of_memory, t.out.0, (refl, refl)) };
         shows = record {
           earlier = earlier;
-          life = record { running = is_running; begun = is_begun; sure = shown.sure; shows = shows };
+          life = record { running = is_running; begun = is_begun; sure = shown.sure; shows = shows; pends = pends };
           base = h.base;
           entries = h.entries;
           synced = h.synced;
@@ -330,10 +349,21 @@ module _ (first before now : Past) (node : Node) (live : Open) (machine : Machin
       }
 
   pub failed_steps : (new_live : Open) (trouble : Trouble)
-      → Tries e log_commits log_synced (Err trouble) new_live before now
+      → Tries e log_commits log_synced (Err trouble) new_live before now → PendsOut (Err trouble) new_live machine.pending later
       → Steps first machine (command c) (failed_answer trouble) node (failed_node (record node { state = Up new_live }) trouble) before now
-  failed_steps new_live Memory t = wanted_steps new_live t
-  failed_steps new_live (File name doubt) t = file_steps new_live name doubt t
+  failed_steps new_live Memory t pends = wanted_steps new_live t pends
+  failed_steps new_live (File name doubt) t pends = file_steps new_live name doubt t
+
+-- the pending transactions of a node that is up
+pub whole_pending : (state : State) (live : Open) → state ≡ Up live → IsWhole state → HasPending live
+whole_pending state live is whole = subst IsWhole is whole
+
+-- they are so where memory was wanting
+pub kept_pending : (trouble : Trouble) (live new_live : Open) (after : List Txn → List Txn) → HasPending live
+    → ((pending : List Txn) → Pends live pending → PendsOut (Err trouble) new_live pending (after pending))
+    → trouble ≡ Memory → HasPending new_live
+kept_pending trouble live new_live after (pending, pends) kept is =
+    (pending, subst (λ (t : Trouble). PendsOut (Err t) new_live pending (after pending)) is (kept pending pends))
 
 -- the node as a call left it, with the answer that it gave
 pub steps_at : (first before now : Past) (machine : Machine) (event : Event) (answer given : Answer) (node left new : Node)

@@ -1,6 +1,6 @@
 -- The effects of commands by their cases.
 use Rattle.std.proofs.Common.{◌≡◌, ℕ, ◌+◌, ◌<◌, ◌≤◌, ◌^◌, Bool, true, false, if◌then◌else◌, List, [], length, Option, Some, None, is_some, Result, Ok, Err, refl, sym, ap, ◌∙◌, subst, inl, inr, arith}
-use Rattle.std.specs.Prelude.{nat_le, ◌&&◌, ◌==◌, IsSome, IsNone, IsSomeAnd}
+use Rattle.std.specs.Prelude.{nat_le, ◌&&◌, ◌==◌, IsSome, IsNone, IsSomeAnd, IfOk, IfErr}
 use Rattle.std.specs.Bool.{Decides}
 use Rattle.std.proofs.lemmas.Bool.{eqb-true, eq-eqb, leb-true}
 use Rattle.std.proofs.lemmas.List.Elements.{All-nil, All-cons}
@@ -17,11 +17,15 @@ use Rattle.db_state.specs.Live.{database}
 use Rattle.file_trait.specs.DiskModel.{Past}
 use Rattle.db_model.specs.Ops.{write}
 use Rattle.db_model.specs.Records.{HasElements, Fits}
+use Rattle.txn_core.specs.Calls.{change}
+use Rattle.txn_core.specs.Locks.{whole_table}
+use Rattle.txn_core.specs.Pending.{Txn, holder}
+use Rattle.txn_core.specs.Refusals.{has_elements, fits}
 use Rattle.txn_log.specs.Commits.{commit_text}
 use Rattle.schema_txn.specs.Commands.{create_commit, delete_commit, RefusesCreate, RefusesDelete}
 use Rattle.schema_txn.specs.declared.error.SchemaErr.{SchemaErr}
 use Rattle.schema_txn.specs.declared.error.SchemaErr.TheVariants as refusals
-use Rattle.mn_node.specs.Effects.{Answer, exists, no_table, bad_record, bad_name, bad_option, too_many_tables, too_many_versions, too_long, Effect, refuses, unless, adds, commits, length_refusal, has_elements, fits, write_of, put_effect, version_refusal, create_refusal, delete_refusal, create_effect, delete_effect}
+use Rattle.mn_node.specs.Effects.{Answer, exists, no_table, bad_record, locked, bad_name, bad_option, too_many_tables, too_many_versions, too_long, Effect, refuses, unless, unless_held, holder_for, length_refusal, adds, commits, write_of, put_effect, version_refusal, create_refusal, create_effect, delete_effect}
 use Rattle.mn_node.specs.Durable.{made}
 use Rattle.db_model.specs.declared.error.DefErr.{DefErr}
 use Rattle.db_model.specs.declared.error.DefErr.TheVariants as ill
@@ -34,7 +38,7 @@ use Rattle.mn_node.specs.declared.open.Trouble.{Trouble}
 use Rattle.mn_node.specs.declared.open.Trouble.TheVariants.{Memory}
 use Rattle.mn_node.specs.declared.reply.Reply.{Reply}
 use Rattle.mn_node.specs.declared.reply.Reply.TheVariants as replies
-use Rattle.mn_node.proofs.Acts.{IsAnswered, refuses_answered, only_told, wanted_memory}
+use Rattle.mn_node.proofs.Acts.{IsAnswered, refuses_answered, only_told, wanted_memory, tries_as}
 
 -- ---- tests
 
@@ -96,27 +100,36 @@ fits_is d t = (
 
 -- ---- a put
 
-pub put_unknown : (found : Option Table) (version : ℕ) (name : List ℕ) (item : Tree) → found ≡ None
-    → put_effect found version name item ≡ refuses (no_table name)
-put_unknown found version name item is = ap (λ (f : Option Table). put_effect f version name item) is
+pub put_unknown : (found : Option Table) (version : ℕ) (pending : List Txn) (name : List ℕ) (item : Tree) → found ≡ None
+    → put_effect found version pending name item ≡ refuses (no_table name)
+put_unknown found version pending name item is = ap (λ (f : Option Table). put_effect f version pending name item) is
 
-abbrev put_if : (b : Bool) (version : ℕ) (name : List ℕ) (item : Tree) → Effect
-put_if b version name item = if b then commits false (write_of version name item) else refuses (bad_record item)
+-- a put where nothing but a lock can bar it
+abbrev pub put_unless : (version : ℕ) (pending : List Txn) (name : List ℕ) (item : Tree) → Option (List ℕ) → Effect
+put_unless version pending name item by = unless_held by (commits false (write_of version name item))
 
-pub put_unfit : (found : Option Table) (table : Table) (version : ℕ) (name : List ℕ) (item : Tree) → found ≡ Some table
-    → (Fits table.definition item → ⊥) → put_effect found version name item ≡ refuses (bad_record item)
-put_unfit found table version name item is unfit =
-    ap (λ (f : Option Table). put_effect f version name item) is ∙ by (fits table.definition item) refl
+abbrev put_if : (b : Bool) (version : ℕ) (pending : List Txn) (name : List ℕ) (item : Tree) → Effect
+put_if b version pending name item =
+    if b then put_unless version pending name item (holder_for (change (write name item)) pending) else refuses (bad_record item)
+
+pub put_unfit : (found : Option Table) (table : Table) (version : ℕ) (pending : List Txn) (name : List ℕ) (item : Tree)
+    → found ≡ Some table
+    → (Fits table.definition item → ⊥) → put_effect found version pending name item ≡ refuses (bad_record item)
+put_unfit found table version pending name item is unfit =
+    ap (λ (f : Option Table). put_effect f version pending name item) is ∙ by (fits table.definition item) refl
   where
-    by : (b : Bool) → fits table.definition item ≡ b → put_if b version name item ≡ refuses (bad_record item)
+    by : (b : Bool) → fits table.definition item ≡ b → put_if b version pending name item ≡ refuses (bad_record item)
     by true fit = absurd (unfit ((fits_is table.definition item).0 fit))
     by false fit = refl
 
-pub put_known : (found : Option Table) (table : Table) (version : ℕ) (name : List ℕ) (item : Tree) → found ≡ Some table
-    → Fits table.definition item → put_effect found version name item ≡ commits false (write_of version name item)
-put_known found table version name item is fit =
-    ap (λ (f : Option Table). put_effect f version name item) is
-    ∙ ap (λ (b : Bool). put_if b version name item) ((fits_is table.definition item).1 fit)
+pub put_fit : (found : Option Table) (table : Table) (version : ℕ) (pending : List Txn) (name : List ℕ) (item : Tree)
+    → found ≡ Some table → Fits table.definition item
+    → (by : Option (List ℕ)) → holder_for (change (write name item)) pending ≡ by
+    → put_effect found version pending name item ≡ put_unless version pending name item by
+put_fit found table version pending name item is fit by held =
+    ap (λ (f : Option Table). put_effect f version pending name item) is
+    ∙ ap (λ (b : Bool). put_if b version pending name item) ((fits_is table.definition item).1 fit)
+    ∙ ap (put_unless version pending name item) held
 
 -- it is lawful where the table stands and can have the record
 pub write_lawful : (database : Database) (table : Table) (name : List ℕ) (item : Tree) → table_in name database.tables ≡ Some table
@@ -148,11 +161,21 @@ long_commit settles c h =
       halts = ap (λ (e : Effect). e.halts) is;
     }
 
+pub short_free : (c : CommitRecord) → length (commit_text c) ≤ 2 ^ 28 → length_refusal c ≡ None
+short_free c h = ap (λ (b : Bool). if b then None else Some too_long) (le_true (length (commit_text c)) (2 ^ 28) h)
+
+pub long_refused : (c : CommitRecord) → 2 ^ 28 < length (commit_text c) → length_refusal c ≡ Some too_long
+long_refused c h = ap (λ (b : Bool). if b then None else Some too_long) (le_false (length (commit_text c)) (2 ^ 28) h)
+
 -- ---- refusals of commands on tables
 
 none_is_none : {T : Type 0} (found : Option T) → IsNone found → is_some found ≡ false
 none_is_none None h = refl
 none_is_none (Some x) h = absurd (cc h)
+
+none_and_some : {T : Type 0} (found : Option T) → IsNone found → IsSome found → ⊥
+none_and_some None none some = absurd (cc some)
+none_and_some (Some x) none some = absurd (cc none)
 
 some_is_some : {T : Type 0} (found : Option T) → IsSome found → is_some found ≡ true
 some_is_some None h = absurd (cc h)
@@ -189,15 +212,26 @@ create_free database d name same lawful =
     (exists name) too_many_tables too_many_versions none (le_false 1000 (length database.tables) lawful.applies.0.2)
     (le_false (2 ^ 64) (database.version + 1) lawful.version.1))
 
-some_name : (database : Database) (name : List ℕ) → IsSome (table_in name database.tables) → is_some (table_in name database.tables) ≡ true
-some_name database name stands = some_is_some (table_in name database.tables) stands
+abbrev pub delete_unless : Database → List Txn → List ℕ → Option (List ℕ) → Effect
+delete_unless database pending name by = unless_held by (unless (version_refusal database) (commits true (delete_commit name database)))
 
-pub delete_free : (database : Database) (name : List ℕ) → IsLawful (delete_commit name database) database
-    → delete_effect database name ≡ commits true (delete_commit name database)
-delete_free database name lawful =
-    ap (λ (r : Option Answer). unless r (commits true (delete_commit name database)))
-    (ap (λ (b : Bool). if b then version_refusal database else Some (no_table name)) (some_name database name lawful.applies.0)
-    ∙ ap (λ (b : Bool). if b then Some too_many_versions else None) (le_false (2 ^ 64) (database.version + 1) lawful.version.1))
+pub delete_known : (database : Database) (pending : List Txn) (name : List ℕ) → IsSome (table_in name database.tables)
+    → (by : Option (List ℕ)) → holder (whole_table name) pending ≡ by
+    → delete_effect (table_in name database.tables) database pending name ≡ delete_unless database pending name by
+delete_known database pending name stands by held = from (table_in name database.tables) stands
+  where
+    from : (found : Option Table) → IsSome found → delete_effect found database pending name ≡ delete_unless database pending name by
+    from None h = absurd (cc h)
+    from (Some table) h = ap (delete_unless database pending name) held
+
+-- where the commit is lawful and the table is free nothing refuses it
+pub delete_free : (database : Database) (pending : List Txn) (name : List ℕ) → IsLawful (delete_commit name database) database
+    → holder (whole_table name) pending ≡ None
+    → delete_effect (table_in name database.tables) database pending name ≡ commits true (delete_commit name database)
+delete_free database pending name lawful free =
+    delete_known database pending name lawful.applies.0 None free
+    ∙ ap (λ (b : Bool). unless (if b then Some too_many_versions else None) (commits true (delete_commit name database)))
+    (le_false (2 ^ 64) (database.version + 1) lawful.version.1)
 
 takes_yet : (refusal : Option Answer) (e : Effect) → e.takes_memory ≡ true → (unless refusal e).takes_memory ≡ true
 takes_yet None e is = is
@@ -272,31 +306,49 @@ module _ {live : Open} {past : Past} {commits_of_log : List CommitRecord} {synce
   create_undefined name ill.Memory result is = wants_as _ result is refl
 
   -- no table of this name stands
-  pub delete_unknown : (name : List ℕ) → table_in name base.tables ≡ None → IsAnswered (delete_effect base name) (no_table name)
-  delete_unknown name none =
-      refused_answered (delete_refusal name base) (no_table name) (commits true (delete_commit name base))
-      (commits_on true (delete_commit name base))
-      (ap (λ (f : Option Table). if is_some f then version_refusal base else Some (no_table name)) none)
+  pub delete_unknown : (pending : List Txn) (name : List ℕ) → table_in name base.tables ≡ None
+      → IsAnswered (delete_effect (table_in name base.tables) base pending name) (no_table name)
+  delete_unknown pending name none =
+      refuses_answered _ (no_table name) (ap (λ (f : Option Table). delete_effect f base pending name) none)
 
-  pub delete_refused : (name : List ℕ) (error : SchemaErr) (result : Result Done Trouble)
+  -- a table that stands and is free
+  pub delete_refused : (pending : List Txn) (name : List ℕ) (error : SchemaErr) (result : Result Done Trouble)
+      → IsSome (table_in name base.tables) → holder (whole_table name) pending ≡ None
       → RefusesDelete error name (database live.tables) → IsRefusalOf error name result
-      → Tries (delete_effect base name) commits_of_log synced result live past past
-  delete_refused name error result why is = by error (subst (RefusesDelete error name) shown.same why) is
+      → Tries (delete_effect (table_in name base.tables) base pending name) commits_of_log synced result live past past
+  delete_refused pending name error result stands free why is =
+      tries_as _ (delete_unless base pending name None) (delete_known base pending name stands None free)
+      (by error (subst (RefusesDelete error name) shown.same why) is)
     where
       c : CommitRecord
       c = delete_commit name base
 
       by : (error : SchemaErr) → RefusesDelete error name base → IsRefusalOf error name result
-          → Tries (delete_effect base name) commits_of_log synced result live past past
+          → Tries (delete_unless base pending name None) commits_of_log synced result live past past
       by (refusals.Exists other) never is = absurd never
-      by refusals.NoTable none is =
-          told_as _ (replies.NoTable name) result is (refused_answered (delete_refusal name base) (no_table name) (commits true c)
-          (commits_on true c)
-          (ap (λ (b : Bool). if b then version_refusal base else Some (no_table name)) (none_is_none (table_in name base.tables) none)))
+      by refusals.NoTable none is = absurd (none_and_some (table_in name base.tables) none stands)
       by refusals.TooManyTables never is = absurd never
       by refusals.TooManyVersions (there, last) is =
-          told_as _ replies.TooManyVersions result is (refused_answered (delete_refusal name base) too_many_versions (commits true c)
+          told_as _ replies.TooManyVersions result is (refused_answered (version_refusal base) too_many_versions (commits true c)
           (commits_on true c)
-          (ap (λ (b : Bool). if b then version_refusal base else Some (no_table name)) (some_is_some (table_in name base.tables) there)
-          ∙ ap (λ (b : Bool). if b then Some too_many_versions else None) (le_true (2 ^ 64) (base.version + 1) last)))
-      by refusals.Memory h is = wants_as _ result is (takes_yet (delete_refusal name base) (commits true c) (commits_take true c))
+          (ap (λ (b : Bool). if b then Some too_many_versions else None) (le_true (2 ^ 64) (base.version + 1) last)))
+      by refusals.Memory h is = wants_as _ result is (takes_yet (version_refusal base) (commits true c) (commits_take true c))
+
+-- ---- a lock of a pending transaction
+
+pub held_answered : (by : List ℕ) (e : Effect) → IsAnswered (unless_held (Some by) e) (locked by)
+held_answered by e = record { answer = refl; entry = refl; settles = refl; halts = refl }
+
+module _ {live : Open} {past : Past} {commits_of_log : List CommitRecord} {synced : ℕ}
+    (held_shown : OpenShows live past commits_of_log synced) where
+  -- a lock bars the command: its holder is told, or memory was wanting for the name
+  pub held_tried : (e other : Effect) (by : List ℕ) (result : Result Done Trouble) → e ≡ unless_held (Some by) other
+      → IfOk result (λ done. done ≡ only (replies.Locked by)) → IfErr result (λ trouble. trouble ≡ Memory)
+      → Tries e commits_of_log synced result live past past
+  held_tried e other by (Ok done) is told wanted =
+      tries_as e (unless_held (Some by) other) is
+      (only_told held_shown (unless_held (Some by) other) (replies.Locked by) done (held_answered by other) told)
+  held_tried e other by (Err trouble) is told wanted =
+      tries_as e (unless_held (Some by) other) is
+      (subst (λ t. Tries (unless_held (Some by) other) commits_of_log synced (Err t) live past past) (sym wanted)
+      (wanted_memory held_shown (unless_held (Some by) other) refl))

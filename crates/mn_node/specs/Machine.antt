@@ -4,9 +4,10 @@ use Rattle.file_trait.specs.DiskModel.{Past}
 use Rattle.db_model.specs.Commits.{CommitRecord}
 use Rattle.db_model.specs.Histories.{AreLawful}
 use Rattle.db_model.specs.Lawful.{IsSound}
+use Rattle.txn_core.specs.Pending.{Txn}
 use Rattle.txn_log.specs.Logs.{IsLogName}
 use Rattle.mn_node.specs.Durable.{Entry, commit, Durable, beginning, after, boot}
-use Rattle.mn_node.specs.Effects.{Command, stop, Answer, started, bad_line, silent, is_down, is_up, no_memory, fault, damaged, is_no_memory, Effect, effect, goes_to_disk}
+use Rattle.mn_node.specs.Effects.{Command, stop, Answer, started, bad_line, silent, is_down, is_up, no_memory, fault, damaged, is_no_memory, Effect, effect, goes_to_disk, pending_after}
 use Rattle.mn_node.specs.Meaning.{Files, latest, Meaning, stands, broken, Stands, StandsClosed, IsBroken, IsPrefixOf, IsOldOr}
 
 -- ---- events
@@ -56,10 +57,12 @@ pub record Machine : Type 0 where
   pub life : Life
   -- a start was answered well
   pub begun : Bool
+  -- the transactions that are pending, in the order of their beginning
+  pub pending : List Txn
 
 abbrev pub unstarted_machine : Meaning → Machine
 unstarted_machine meaning =
-    record { base = meaning; entries = []; synced = 0; doubt = false; life = unstarted; begun = false }
+    record { base = meaning; entries = []; synced = 0; doubt = false; life = unstarted; begun = false; pending = [] }
 
 abbrev pub durable_of : Meaning → Durable
 durable_of (stands w) = w
@@ -94,16 +97,22 @@ entries_of (Some entry) = entry ∷ []
 abbrev pub with_life : Life → Machine → Machine
 with_life life old = record old { life = life }
 
-abbrev pub with_effect : Effect → Machine → Machine
-with_effect e old = record old {
+abbrev pub with_effect : Effect → List Txn → Machine → Machine
+with_effect e pending old = record old {
   entries = old.entries ++ entries_of e.entry;
   synced = if e.settles then length (old.entries ++ entries_of e.entry) else old.synced;
   life = if e.halts then halted else running;
+  pending = pending;
 }
 
--- a fault leaves the entry in doubt, where there is one
+-- a fault leaves the entry in doubt, where there is one, and no transaction
 abbrev pub in_doubt : Effect → Machine → Machine
-in_doubt e old = record old { entries = old.entries ++ entries_of e.entry; doubt = is_some e.entry; life = faulted }
+in_doubt e old = record old {
+  entries = old.entries ++ entries_of e.entry;
+  doubt = is_some e.entry;
+  life = faulted;
+  pending = [];
+}
 
 -- what may have been kept: all entries, or, where the last is in doubt, all but that one
 abbrev pub IsKept : Machine → List Entry → Type 0
@@ -113,7 +122,7 @@ IsKept machine kept =
 abbrev pub booted : Durable → List Entry → Machine
 booted w kept =
     let base = stands (boot (after w kept)) in
-    record { base = base; entries = []; synced = 0; doubt = false; life = running; begun = true }
+    record { base = base; entries = []; synced = 0; doubt = false; life = running; begun = true; pending = [] }
 
 -- ---- steps
 
@@ -128,10 +137,17 @@ May e as_asked = Unit {0}
 May e out_of_memory = IsTrue e.takes_memory
 May e (failed name) = IsTrue (goes_to_disk e) × (name ≡ latest)
 
-abbrev pub Comes : Choice → Effect → Machine → Answer → Machine → Type 0
-Comes as_asked e old answer new = (answer ≡ e.answer) × (new ≡ with_effect e old)
-Comes out_of_memory e old answer new = (answer ≡ no_memory) × (new ≡ old)
-Comes (failed name) e old answer new = (answer ≡ fault name) × (new ≡ in_doubt e old)
+abbrev pub Comes : Choice → Effect → List Txn → Machine → Answer → Machine → Type 0
+Comes as_asked e pending old answer new = (answer ≡ e.answer) × (new ≡ with_effect e pending old)
+Comes out_of_memory e pending old answer new = (answer ≡ no_memory) × (new ≡ old)
+Comes (failed name) e pending old answer new = (answer ≡ fault name) × (new ≡ in_doubt e old)
+
+-- the effect of a command here, and what is pending behind it
+abbrev pub effect_here : Machine → Command → Effect
+effect_here machine c = effect (now_of machine) machine.pending c
+
+abbrev pub pending_behind : Machine → Command → List Txn
+pending_behind machine c = pending_after (now_of machine) machine.pending c
 
 -- it is refused with this answer, and nothing changes
 abbrev pub Refused : Answer → Machine → Answer → Machine → Type 0
@@ -139,8 +155,8 @@ Refused given old answer new = (answer ≡ given) × (new ≡ old)
 
 abbrev pub Does : Command → Machine → Answer → Machine → Type 0
 Does c old answer new =
-    ((old.life ≡ running) × (choice : Choice) × May (effect (now_of old) c) choice
-    × Comes choice (effect (now_of old) c) old answer new)
+    ((old.life ≡ running) × (choice : Choice) × May (effect_here old c) choice
+    × Comes choice (effect_here old c) (pending_behind old c) old answer new)
     ⊎ ((runs old.life ≡ false) × Refused is_down old answer new)
 
 -- a start goes on from what was kept, and a directory without a meaning ruins the machine
@@ -196,7 +212,7 @@ Leaves first machine more files =
     LeavesAs machine.begun machine.base first (machine.entries ++ more) machine.synced files
 
 abbrev pub entries_if : Bool → Command → Machine → List Entry
-entries_if true c old = entries_of (effect (now_of old) c).entry
+entries_if true c old = entries_of (effect_here old c).entry
 entries_if false c old = []
 
 -- what an event that was answered so may add to the log: want of memory adds nothing

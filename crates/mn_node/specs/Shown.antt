@@ -1,13 +1,19 @@
 -- What a node and its disk stand for.
 use Rattle.std.specs.Prelude.{◌≡◌, ℕ, ◌+◌, ◌≤◌, ◌<◌, ◌^◌, true, false, List, [], ◌++◌, length, Option, Some, None}
+use Rattle.std.specs.List.{AllByRecursion}
 use Rattle.file_trait.specs.DiskModel.{Past, reads, Crashes}
 use Rattle.file_trait.specs.Moments.{Moments}
 use Rattle.file_trait.specs.Touched.{Touches}
 use Rattle.disk_logs.specs.Crash.{IsSound}
 use Rattle.disk_logs.specs.Logs.{IsLog}
 use Rattle.db_model.specs.Commits.{CommitRecord}
+use Rattle.db_model.specs.Database.{Table}
 use Rattle.db_model.specs.Lawful as databases
+use Rattle.db_model.specs.Names.{IsTableName}
 use Rattle.db_state.specs.Live.{database}
+use Rattle.txn_core.specs.Pending.{Txn}
+use Rattle.txn_core.specs.Shown as shown
+use Rattle.txn_core.specs.Sound.{Sound}
 use Rattle.txn_log.specs.Logs.{Reads, TxnStands, handle, IsLogName}
 use Rattle.mn_node.specs.Durable.{Entry, made}
 use Rattle.mn_node.specs.Effects.{Answer, started}
@@ -25,6 +31,19 @@ pub record OpenShows (live : Open) (past : Past) (commits : List CommitRecord) (
   pub taken : AreTaken commits
   pub sound : databases.IsSound (made commits).database
 
+-- the table is called what one can be
+abbrev pub IsNamed : Table → Type 0
+IsNamed table = IsTableName table.definition.name
+
+-- These transactions are pending, and sound over the tables of the live database.
+pub record Pends (live : Open) (pending : List Txn) : Type 0 where
+  pub shows : shown.Shows live.txns pending
+  pub sound : Sound record { tables = (database live.tables).tables; pending = pending }
+  pub named : AllByRecursion IsNamed (database live.tables).tables
+
+abbrev pub HasPending : Open → Type 0
+HasPending live = (pending : List Txn) × Pends live pending
+
 -- a start took the earlier commits, and behind them each entry was lawful when it was done
 pub record IsHistory (earlier : List CommitRecord) (entries : List Entry) : Type 0 where
   pub taken : AreTaken earlier
@@ -36,6 +55,7 @@ pub record IsUp (live : Open) (past : Past) (machine : Machine) (earlier : List 
   pub begun : machine.begun ≡ true
   pub sure : machine.doubt ≡ false
   pub shows : OpenShows live past (earlier ++ commits_of machine.entries) (length earlier + machine.synced)
+  pub pends : Pends live machine.pending
 
 abbrev pub ShowsLife : State → Past → Machine → List CommitRecord → Type 0
 ShowsLife Unstarted past machine earlier = machine.life ≡ unstarted
@@ -109,9 +129,10 @@ abbrev pub IsFaulted : State → Type 0
 IsFaulted Faulted = Unit {0}
 IsFaulted other = ⊥
 
--- no start found damage
+-- no start found damage, and what is kept of pending transactions is that of some
 abbrev pub IsWhole : State → Type 0
 IsWhole Ruined = ⊥
+IsWhole (Up live) = HasPending live
 IsWhole other = Unit {0}
 
 -- the numbers that a node counts are small where so many commands were answered

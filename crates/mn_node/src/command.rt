@@ -21,4 +21,22 @@ pub enum Command {
     SyncLog,
     /// Close the log.
     Stop,
+    /// Begin a transaction of this name.
+    Begin(Atom),
+    /// In the transaction, write this record into the table.
+    Write(Atom, Atom, Term),
+    /// In the transaction, delete the table's records with this key.
+    Delete(Atom, Atom, Term),
+    /// In the transaction, delete this record of the table.
+    DeleteObject(Atom, Atom, Term),
+    /// In the transaction, read the table's records with this key.
+    Read(Atom, Atom, Term),
+    /// In the transaction, read the table's records that match this pattern.
+    MatchObject(Atom, Atom, Term),
+    /// In the transaction, read the table's keys.
+    AllKeys(Atom, Atom),
+    /// Commit what the transaction wrote.
+    Commit(Atom),
+    /// Drop the transaction, with what it wrote.
+    Abort(Atom),
 }

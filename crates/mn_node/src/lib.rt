@@ -12,6 +12,7 @@ mod open;
 mod reply;
 mod starting;
 mod terms;
+mod transacting;
 
 pub use command::Command;
 pub use laws::directory_law;

@@ -1,6 +1,7 @@
 //! What a node that is up works on: the live database and the log of its commits.
 
-ghost use Rattle.std.specs.Prelude.{◌≡◌, ◌<◌, ◌≤◌, ◌+◌, ◌-◌, ◌^◌, ◌∷◌, [], ℕ, List, map, false, None, IsTrue, IfOk, IsSomeAnd, IsErrOf, OnErr, MatchOption};
+ghost use Rattle.std.specs.Prelude.{◌≡◌, ◌<◌, ◌≤◌, ◌+◌, ◌-◌, ◌^◌, ◌∷◌, [], ℕ, List, map, true, false, None, IsTrue, IfOk, IsSomeAnd, IsErrOf, OnErr, IfErr, MatchOption};
+ghost use Rattle.std.specs.Option.{option_copied};
 ghost use Rattle.file_trait.specs.DiskModel.{Past};
 ghost use Rattle.term_core.specs.Tree.{atom, greatest_depth};
 ghost use Rattle.term_core.specs.View.{tree_of};
@@ -12,18 +13,21 @@ ghost use Rattle.db_model.specs.View.{definition, commit_record};
 ghost use Rattle.db_model.specs.declared.op.Op.TheVariants.{Write};
 ghost use Rattle.db_state.specs.Live.{database, definition_of};
 ghost use Rattle.schema_txn.specs.Commands.{RefusesCreate, RefusesDelete};
+ghost use Rattle.db_model.specs.Ops as ops;
+ghost use Rattle.txn_core.specs.Calls as calls;
+ghost use Rattle.txn_core.specs.Pending.{Txn};
 ghost use Rattle.txn_log.specs.Commits.{IsLogged, IsItemOf, op_trees};
 ghost use Rattle.txn_log.specs.Logs.{handle, latest, TxnStands, IsLogName};
 ghost use Rattle.mn_node.specs.Durable.{made};
-ghost use Rattle.mn_node.specs.Effects.{IsAskable, effect, commits as commit_effect};
+ghost use Rattle.mn_node.specs.Effects.{IsAskable, effect, pending_after, commits as commit_effect};
 ghost use Rattle.mn_node.specs.Effects as machine;
-ghost use Rattle.mn_node.specs.Inside.Tries.{IsFileOrMemory, Tries, Appends, Attempts, IsPlain, IsRefusalOf, IsUndefined};
+ghost use Rattle.mn_node.specs.Inside.Tries.{IsFileOrMemory, Tries, PendsOut, durable, Appends, Attempts, CommitsTo, only, IsPlain, IsRefusalOf, IsUndefined};
 ghost use Rattle.mn_node.specs.Seen as seen;
-ghost use Rattle.mn_node.specs.Shown.{OpenShows};
+ghost use Rattle.mn_node.specs.Shown.{OpenShows, Pends, HasPending};
 
 use crate::command::Command;
 use crate::reply::Reply;
-use crate::terms::{copies, named, size_option};
+use crate::terms::{copied_name, copies, named, size_option};
 use db_model::{Commit, DefErr, Op, Ops, SchemaOps, TableDef, create_list, fits, is_table_name};
 use db_state::Live;
 use disk_logs::LogErr;
@@ -32,6 +36,7 @@ use schema_txn::{SchemaErr, create_table, delete_table};
 use sqlite_items::Items;
 use std::alloc::{AllocError, Global};
 use term_core::{Atom, Term};
+use txn_core::Txns;
 use txn_log::{CommitItem, TxnLog, encode_commit};
 
 /// What a command did.
@@ -65,15 +70,16 @@ impl From<AllocError> for Trouble {
     }
 }
 
-/// The live database, and the log that its commits go to.
+/// The live database, the log that its commits go to, and the transactions that are pending.
 #[derive(Drop)]
 pub struct Open {
     pub log: TxnLog,
     pub tables: Live,
+    pub txns: Txns,
 }
 
 /// Only a reply.
-fn told(reply: Reply) -> Done
+pub fn told(reply: Reply) -> Done
     ensures { result ≡ record { reply = reply; wrote = false; settles = false; halts = false } }
 {
     Done {
@@ -112,6 +118,8 @@ fn append<D: Disk>(
         → IsItemOf commit item.now → TxnStands (D.past disk.old) log.old commits synced
         → Appends settles commit commits synced result log.new (D.past disk.old) (D.past disk.new) }
     ensures owes { Attempts D.Disk disk.old disk.new log.old log.new result }
+    ensures done { IfOk result (λ done.
+        done ≡ record { reply = Reply.Done; wrote = true; settles = settles; halts = false }) }
 {
     if let Err(error) = log.append(disk, item) {
         return Err(why(error, true));
@@ -192,6 +200,14 @@ fn info_of(alloc: Global, def: &TableDef, count: u64) -> Result<Items<Term>, All
     }
 }
 
+/// What is answered where the transaction of this name has a conflicting lock.
+fn locked(alloc: Global, by: &Atom) -> Result<Done, Trouble>
+    ensures ok { IfOk result (λ done. done ≡ only (Reply.Locked by.now)) }
+    ensures err { IfErr result (λ trouble. trouble ≡ Trouble.Memory) }
+{
+    Ok(told(Reply::Locked(copied_name(alloc, by)?)))
+}
+
 impl Open {
     /// Does one command: one arm each.
     pub fn attempt<D: Disk>(
@@ -203,9 +219,12 @@ impl Open {
         requires log { IsTrue D.tells → IsLog (D.past disk.old) (handle self.old.log) }
         requires few { self.old.log.commits < 2 ^ 64 - 1 }
         requires asked { IsAskable (seen.asked command) }
-        ensures tries { IsTrue D.tells → (commits : List CommitRecord) (synced : ℕ)
-            → OpenShows self.old (D.past disk.old) commits synced
-            → Tries (effect (made commits) (seen.asked command)) commits synced result self.new
+        requires pending { HasPending self.old }
+        ensures pends { (pending : List Txn) → Pends self.old pending
+            → PendsOut result self.new pending (pending_after (durable self.old) pending (seen.asked command)) }
+        ensures tries { IsTrue D.tells → (commits : List CommitRecord) (synced : ℕ) (pending : List Txn)
+            → OpenShows self.old (D.past disk.old) commits synced → Pends self.old pending
+            → Tries (effect (made commits) pending (seen.asked command)) commits synced result self.new
             (D.past disk.old) (D.past disk.new) }
         ensures owes { Attempts D.Disk disk.old disk.new self.old.log self.new.log result }
         ensures sync { seen.asked command ≡ machine.sync_log → IsErrOf result Trouble.Memory → ⊥ }
@@ -219,6 +238,17 @@ impl Open {
             Command::TableInfo(name) => self.info(alloc, name),
             Command::SyncLog => self.settle(disk),
             Command::Stop => self.close(disk),
+            Command::Begin(name) => self.begin(alloc, name),
+            Command::Write(name, table, row) => self.write(alloc, name, table, row),
+            Command::Delete(name, table, key) => self.delete_key(alloc, name, table, key),
+            Command::DeleteObject(name, table, row) => self.delete_object(alloc, name, table, row),
+            Command::Read(name, table, key) => self.read(alloc, name, table, key),
+            Command::MatchObject(name, table, pattern) => {
+                self.match_object(alloc, name, table, pattern)
+            }
+            Command::AllKeys(name, table) => self.all_keys(alloc, name, table),
+            Command::Commit(name) => self.commit_txn(alloc, disk, name),
+            Command::Abort(name) => self.abort(name),
         }
     }
 
@@ -232,10 +262,13 @@ impl Open {
     ) -> Result<Done, Trouble>
         requires log { IsTrue D.tells → IsLog (D.past disk.old) (handle self.old.log) }
         requires few { self.old.log.commits < 2 ^ 64 - 1 }
-        ensures tries { IsTrue D.tells → (commits : List CommitRecord) (synced : ℕ)
-            → OpenShows self.old (D.past disk.old) commits synced
-            → Tries (effect (made commits) (machine.put table (tree_of row))) commits synced result self.new
+        ensures tries { IsTrue D.tells → (commits : List CommitRecord) (synced : ℕ) (pending : List Txn)
+            → OpenShows self.old (D.past disk.old) commits synced → Pends self.old pending
+            → Tries (effect (made commits) pending (machine.put table (tree_of row))) commits synced result self.new
             (D.past disk.old) (D.past disk.new) }
+        ensures pends { (pending : List Txn) → Pends self.old pending
+            → PendsOut result self.new pending
+            (pending_after (durable self.old) pending (machine.put table (tree_of row))) }
         ensures owes { Attempts D.Disk disk.old disk.new self.old.log self.new.log result }
     {
         let Some(def) = self.standing(&table) else {
@@ -243,6 +276,9 @@ impl Open {
         };
         if !fits(def, &row) {
             return Ok(told(Reply::BadRecord(row)));
+        }
+        if let Some(by) = self.write_holder(&table, &row) {
+            return locked(alloc, by);
         }
         let commit = write_commit(alloc, self.tables.schema().version, table, row)?;
         self.commit(alloc, disk, &commit, false)
@@ -259,10 +295,13 @@ impl Open {
         requires log { IsTrue D.tells → IsLog (D.past disk.old) (handle self.old.log) }
         requires few { self.old.log.commits < 2 ^ 64 - 1 }
         requires asked { IsAskable (machine.create_table name (seen.read_as read)) }
-        ensures tries { IsTrue D.tells → (commits : List CommitRecord) (synced : ℕ)
-            → OpenShows self.old (D.past disk.old) commits synced
-            → Tries (effect (made commits) (machine.create_table name (seen.read_as read))) commits synced result
-            self.new (D.past disk.old) (D.past disk.new) }
+        ensures tries { IsTrue D.tells → (commits : List CommitRecord) (synced : ℕ) (pending : List Txn)
+            → OpenShows self.old (D.past disk.old) commits synced → Pends self.old pending
+            → Tries (effect (made commits) pending (machine.create_table name (seen.read_as read))) commits synced
+            result self.new (D.past disk.old) (D.past disk.new) }
+        ensures pends { (pending : List Txn) → Pends self.old pending
+            → PendsOut result self.new pending
+            (pending_after (durable self.old) pending (machine.create_table name (seen.read_as read))) }
         ensures owes { Attempts D.Disk disk.old disk.new self.old.log self.new.log result }
     {
         let def = match read {
@@ -279,15 +318,20 @@ impl Open {
     fn delete<D: Disk>(&mut self, alloc: Global, disk: &mut D, name: Atom) -> Result<Done, Trouble>
         requires log { IsTrue D.tells → IsLog (D.past disk.old) (handle self.old.log) }
         requires few { self.old.log.commits < 2 ^ 64 - 1 }
-        ensures tries { IsTrue D.tells → (commits : List CommitRecord) (synced : ℕ)
-            → OpenShows self.old (D.past disk.old) commits synced
-            → Tries (effect (made commits) (machine.delete_table name)) commits synced result self.new
+        ensures tries { IsTrue D.tells → (commits : List CommitRecord) (synced : ℕ) (pending : List Txn)
+            → OpenShows self.old (D.past disk.old) commits synced → Pends self.old pending
+            → Tries (effect (made commits) pending (machine.delete_table name)) commits synced result self.new
             (D.past disk.old) (D.past disk.new) }
+        ensures pends { (pending : List Txn) → Pends self.old pending
+            → PendsOut result self.new pending (pending_after (durable self.old) pending (machine.delete_table name)) }
         ensures owes { Attempts D.Disk disk.old disk.new self.old.log self.new.log result }
     {
         let Some(_) = self.standing(&name) else {
             return Ok(told(Reply::NoTable(name)));
         };
+        if let Some(by) = self.txns.holder(&name) {
+            return locked(alloc, by);
+        }
         match delete_table(alloc, &self.tables, &name) {
             Ok(commit) => self.commit(alloc, disk, &commit, true),
             Err(error) => refused(error, name),
@@ -310,7 +354,7 @@ impl Open {
 
     /// Takes the memory that the commit needs in the tables, then appends it, makes it durable where it settles, and
     /// then does it, which cannot fail.
-    fn commit<D: Disk>(
+    pub fn commit<D: Disk>(
         &mut self,
         alloc: Global,
         disk: &mut D,
@@ -327,6 +371,7 @@ impl Open {
             → Tries (commit_effect settles (commit_record commit.now)) commits synced result self.new
             (D.past disk.old) (D.past disk.new) }
         ensures owes { Attempts D.Disk disk.old disk.new self.old.log self.new.log result }
+        ensures did { CommitsTo (commit_record commit.now) self.old self.new result }
     {
         let item = match encode_commit(alloc, commit) {
             Ok(item) => item,
@@ -343,26 +388,40 @@ impl Open {
         }
     }
 
+    /// The first pending transaction with a lock that bars a write of the record.
+    fn write_holder(&self, table: &Atom, row: &Term) -> Option<&Atom>
+        ensures { (pending : List Txn) → Pends self.now pending
+            → option_copied result ≡ machine.holder_for (calls.change (ops.write table.now (tree_of row.now))) pending }
+    {
+        match row.key() {
+            Some(key) => self.txns.key_holder(table, key, true),
+            None => self.txns.holder(table),
+        }
+    }
+
     /// Copies of the records with this key, of a table that stands.
     fn get(&self, alloc: Global, table: Atom, key: &Term) -> Result<Done, Trouble>
-        ensures tries { (past : Past) (commits : List CommitRecord) (synced : ℕ)
-            → OpenShows self.now past commits synced
-            → Tries (effect (made commits) (machine.get table (tree_of key.now))) commits synced result self.now
+        ensures tries { (past : Past) (commits : List CommitRecord) (synced : ℕ) (pending : List Txn)
+            → OpenShows self.now past commits synced → Pends self.now pending
+            → Tries (effect (made commits) pending (machine.get table (tree_of key.now))) commits synced result self.now
             past past }
         ensures none { (name : List ℕ) (doubt : _) → IsErrOf result (Trouble.File name doubt) → ⊥ }
         ensures plain { IfOk result (λ done. IsPlain (seen.answer done.reply)) }
     {
-        match self.tables.table(&table) {
-            Some(records) => Ok(told(Reply::Found(copies(alloc, records.read(key))?))),
-            None => Ok(told(Reply::NoTable(table))),
+        let Some(records) = self.tables.table(&table) else {
+            return Ok(told(Reply::NoTable(table)));
+        };
+        if let Some(by) = self.txns.key_holder(&table, key, false) {
+            return locked(alloc, by);
         }
+        Ok(told(Reply::Found(copies(alloc, records.read(key))?)))
     }
 
     /// The names of the tables, in their order.
     fn names(&self, alloc: Global) -> Result<Done, Trouble>
-        ensures tries { (past : Past) (commits : List CommitRecord) (synced : ℕ)
-            → OpenShows self.now past commits synced
-            → Tries (effect (made commits) (machine.tables)) commits synced result self.now past past }
+        ensures tries { (past : Past) (commits : List CommitRecord) (synced : ℕ) (pending : List Txn)
+            → OpenShows self.now past commits synced → Pends self.now pending
+            → Tries (effect (made commits) pending (machine.tables)) commits synced result self.now past past }
         ensures none { (name : List ℕ) (doubt : _) → IsErrOf result (Trouble.File name doubt) → ⊥ }
         ensures plain { IfOk result (λ done. IsPlain (seen.answer done.reply)) }
     {
@@ -372,9 +431,9 @@ impl Open {
 
     /// All options of a table that stands, and how many records it has.
     fn info(&self, alloc: Global, name: Atom) -> Result<Done, Trouble>
-        ensures tries { (past : Past) (commits : List CommitRecord) (synced : ℕ)
-            → OpenShows self.now past commits synced
-            → Tries (effect (made commits) (machine.table_info name)) commits synced result self.now past past }
+        ensures tries { (past : Past) (commits : List CommitRecord) (synced : ℕ) (pending : List Txn)
+            → OpenShows self.now past commits synced → Pends self.now pending
+            → Tries (effect (made commits) pending (machine.table_info name)) commits synced result self.now past past }
         ensures none { (name : List ℕ) (doubt : _) → IsErrOf result (Trouble.File name doubt) → ⊥ }
         ensures plain { IfOk result (λ done. IsPlain (seen.answer done.reply)) }
     {
@@ -390,11 +449,12 @@ impl Open {
     /// Makes all commits durable.
     fn settle<D: Disk>(&mut self, disk: &mut D) -> Result<Done, Trouble>
         requires log { IsTrue D.tells → IsLog (D.past disk.old) (handle self.old.log) }
-        ensures tries { IsTrue D.tells → (commits : List CommitRecord) (synced : ℕ)
-            → OpenShows self.old (D.past disk.old) commits synced
-            → Tries (effect (made commits) machine.sync_log) commits synced result self.new
+        ensures tries { IsTrue D.tells → (commits : List CommitRecord) (synced : ℕ) (pending : List Txn)
+            → OpenShows self.old (D.past disk.old) commits synced → Pends self.old pending
+            → Tries (effect (made commits) pending machine.sync_log) commits synced result self.new
             (D.past disk.old) (D.past disk.new) }
         ensures owes { Attempts D.Disk disk.old disk.new self.old.log self.new.log result }
+        ensures kept { (self.new.tables ≡ self.old.tables) × (self.new.txns ≡ self.old.txns) }
         ensures same { self.new.log.commits ≡ self.old.log.commits }
         ensures never { IsErrOf result Trouble.Memory → ⊥ }
         ensures one { D.moment disk.new ≤ D.moment disk.old + 1 }
@@ -413,11 +473,13 @@ impl Open {
     /// Closes the log.
     fn close<D: Disk>(&mut self, disk: &mut D) -> Result<Done, Trouble>
         requires log { IsTrue D.tells → IsLog (D.past disk.old) (handle self.old.log) }
-        ensures tries { IsTrue D.tells → (commits : List CommitRecord) (synced : ℕ)
-            → OpenShows self.old (D.past disk.old) commits synced
-            → Tries (effect (made commits) machine.stop) commits synced result self.new
+        ensures tries { IsTrue D.tells → (commits : List CommitRecord) (synced : ℕ) (pending : List Txn)
+            → OpenShows self.old (D.past disk.old) commits synced → Pends self.old pending
+            → Tries (effect (made commits) pending machine.stop) commits synced result self.new
             (D.past disk.old) (D.past disk.new) }
         ensures owes { Attempts D.Disk disk.old disk.new self.old.log self.new.log result }
+        ensures kept { (self.new.tables ≡ self.old.tables) × (self.new.txns ≡ self.old.txns) }
+        ensures halts { IfOk result (λ done. done.halts ≡ true) }
         ensures same { self.new.log.commits ≡ self.old.log.commits }
         ensures calls_few { D.moment disk.new ≤ D.moment disk.old + 3 }
     {

@@ -10,7 +10,9 @@ pub enum Reply {
     Started(u64),
     /// The commit is done.
     Done,
-    /// The records of a key, the names of the tables, or what is told of one.
+    /// The transaction did what it was asked, and nothing is committed.
+    Ok,
+    /// Records, keys, the names of the tables, or what is told of one.
     Found(Items<Term>),
     /// All commits are durable.
     Synced,
@@ -18,20 +20,28 @@ pub enum Reply {
     Stopped,
     /// There is no table of this name.
     NoTable(Atom),
-    /// There is a table of this name.
+    /// There is a table of this name, or a pending transaction.
     Exists(Atom),
-    /// The table can have no such record.
+    /// The table can have no such record or key.
     BadRecord(Term),
     /// No table can be called so.
     BadName(Atom),
     /// The option at this place is ill, from 1, or there is no list of options, at 0.
     BadOption(u64),
+    /// No transaction of this name is pending.
+    NoTransaction(Atom),
+    /// The transaction of this name has a conflicting lock.
+    Locked(Atom),
     /// There are as many tables as there may be.
     TooManyTables,
     /// There is no version behind that of the database.
     TooManyVersions,
     /// The commit's text is longer than one may be.
     TooLong,
+    /// There are as many pending transactions as there may be.
+    TooManyTransactions,
+    /// The transaction has as many calls as it may.
+    TooManyCalls,
     /// The line is no command, from this byte on.
     Badarg(u64),
     /// The node is down, and the command is no start.

@@ -1,6 +1,7 @@
 //! The start: a node over a new log, or with the database that the log's commits make.
 
-ghost use Rattle.std.specs.Prelude.{◌≡◌, ◌↔◌, ◌<◌, ◌+◌, ℕ, List, ◌^◌, Some, true, length, take, IsTrue, IsErrOf, OnOk, OnErr, IfOk, MatchResult};
+ghost use Rattle.std.specs.List.{AllByRecursion};
+ghost use Rattle.std.specs.Prelude.{◌≡◌, [], ◌↔◌, ◌<◌, ◌+◌, ℕ, List, ◌^◌, Some, true, length, take, IsTrue, IsErrOf, OnOk, OnErr, IfOk, MatchResult};
 ghost use Rattle.std.specs.Bool.{MatchBool};
 ghost use Rattle.file_trait.specs.DiskModel.{reads, IsImage, IsSettled, Crashes};
 ghost use Rattle.file_trait.specs.Moments.{Moments};
@@ -17,7 +18,7 @@ ghost use Rattle.mn_node.specs.Durable.{made};
 ghost use Rattle.mn_node.specs.Inside.Loads.{Loads, Makes, TakesAt, CannotTakeAt, FailsBroken};
 ghost use Rattle.mn_node.specs.Inside.Tries.{IsFileOrMemory};
 ghost use Rattle.mn_node.specs.Meaning.{Files, IsBroken, latest, AreTaken};
-ghost use Rattle.mn_node.specs.Shown.{OpenShows, StaysSound};
+ghost use Rattle.mn_node.specs.Shown.{OpenShows, IsNamed, Pends, StaysSound};
 ghost use Rattle.mn_node.specs.declared.starting.StartErr.TheVariants.{Memory};
 
 use crate::open::Open;
@@ -25,6 +26,7 @@ use db_state::Live;
 use disk_logs::LogErr;
 use file_trait::{Disk, FileName};
 use std::alloc::{AllocError, Global};
+use txn_core::Txns;
 use txn_log::{CommitFile, TxnLog, latest as latest_name};
 
 /// Why a start did not bring the node up.
@@ -83,12 +85,21 @@ pub fn start<D: Disk>(alloc: Global, disk: &mut D) -> Result<Open, StartErr>
     ensures calls { Calls (D.faults disk.old) (D.faults disk.new) (D.blamed disk.new)
         (λ name. IsErrOf result (StartErr.File name)) }
     ensures named { (name : List ℕ) → IsErrOf result (StartErr.File name) → IsLogName name }
+    ensures pends { IfOk result (λ live. Pends live []) }
 {
     let read = found(alloc, disk)?;
     let tables = loaded(alloc, &read)?;
     synced_directory(disk)?;
     match TxnLog::open(alloc, disk, &read) {
-        Ok(log) => Ok(Open { log, tables }),
+        Ok(log) => {
+            tables.order_law();
+            tables.key_law();
+            Ok(Open {
+                log,
+                tables,
+                txns: Txns::new(alloc),
+            })
+        }
         Err(error) => Err(open_error(error)),
     }
 }
@@ -114,6 +125,7 @@ fn loaded(alloc: Global, read: &Option<CommitFile>) -> Result<Live, StartErr>
     ensures loads { (files : Files) → IsAsRead read.now (files latest)
         → IfOk result (λ live. Loads files (database live)) }
     ensures commits { OnOk result (HasOnlyCommits read.now) }
+    ensures named { IfOk result (λ live. AllByRecursion IsNamed (database live).tables) }
     ensures damaged { (files : Files) → IsAsRead read.now (files latest)
         → (name : List ℕ) (at : ℕ) → IsErrOf result (StartErr.Damaged name at) → IsBroken files name at }
     ensures fault { (name : List ℕ) → IsErrOf result (StartErr.File name) → ⊥ }

@@ -19,14 +19,18 @@ pub fn atom(alloc: Global, text: &str) -> Result<Term, AllocError>
     }
 }
 
+/// A name that equals this one.
+pub fn copied_name(alloc: Global, name: &Atom) -> Result<Atom, AllocError>
+    ensures { IfOk result (λ copy. copy ≡ name.now) }
+{
+    name.try_clone(alloc).map_err(|_| AllocError)
+}
+
 /// The atom of a name.
 pub fn named(alloc: Global, name: &Atom) -> Result<Term, AllocError>
     ensures { IfOk result (λ term. tree_of term ≡ trees.atom name.now) }
 {
-    match name.try_clone(alloc) {
-        Ok(copy) => Ok(Term::Atom(copy)),
-        Err(_) => Err(AllocError),
-    }
+    Ok(Term::Atom(copied_name(alloc, name)?))
 }
 
 /// `{size,Count}`

@@ -4,11 +4,12 @@ use Rattle.std.proofs.lemmas.List.{take-append-drop}
 use Rattle.std.proofs.Math.Seq.{drop-nil}
 use Rattle.file_trait.specs.Counts.{Rose}
 use Rattle.file_trait.specs.DiskModel.{Past, reads}
+use Rattle.txn_core.specs.Pending.{Txn}
 use Rattle.mn_node.proofs.Answers.{answers_undamaged}
 use Rattle.mn_node.proofs.NodeFacts.{shows_closed, shows_first}
 use Rattle.mn_node.specs.Shown.{ShowsLife, Shows, IsFew, IsFaulted, IsWhole}
-use Rattle.mn_node.specs.Effects.{Command, stop, Answer, stopped, is_down, fault, damaged, Effect, effect}
-use Rattle.mn_node.specs.Machine.{Machine, Event, Life, halted, faulted, ruined, IsAlive, unstarted_machine, Step, Change, Boots, ComesUp, Choice, as_asked, out_of_memory, failed, Comes, now_of, Does}
+use Rattle.mn_node.specs.Effects.{Command, stop, Answer, stopped, is_down, fault, damaged, Effect}
+use Rattle.mn_node.specs.Machine.{Machine, Event, Life, halted, faulted, ruined, IsAlive, unstarted_machine, Step, Change, Boots, ComesUp, Choice, as_asked, out_of_memory, failed, Comes, now_of, effect_here, pending_behind, Does}
 use Rattle.mn_node.specs.Machine as machines
 use Rattle.mn_node.specs.Meaning.{Files, Meaning, Means, stands, broken}
 use Rattle.mn_node.specs.declared.node.Node.{Node}
@@ -38,30 +39,30 @@ use Rattle.mn_run.proofs.RunFronts.{Point, point, Front, here, front_as, front_o
 
 -- ---- how the script's end is answered
 
-answered : (c : Choice) (e : Effect) (old : Machine) (given : Answer) (new : Machine) → e.answer ≡ stopped → Comes c e old given new
-    → given ≡ stopped → new.life ≡ (machines.with_effect e old).life
-answered as_asked e old given new told (is, so) stops = ap (λ (m : Machine). m.life) so
-answered out_of_memory e old given new told (is, so) stops = let other = sym is ∙ stops in absurd cc
-answered (failed name) e old given new told (is, so) stops = let other = sym is ∙ stops in absurd cc
+answered : (c : Choice) (e : Effect) (pending : List Txn) (old : Machine) (given : Answer) (new : Machine) → e.answer ≡ stopped
+    → Comes c e pending old given new → given ≡ stopped → new.life ≡ (machines.with_effect e pending old).life
+answered as_asked e pending old given new told (is, so) stops = ap (λ (m : Machine). m.life) so
+answered out_of_memory e pending old given new told (is, so) stops = let other = sym is ∙ stops in absurd cc
+answered (failed name) e pending old given new told (is, so) stops = let other = sym is ∙ stops in absurd cc
 
 ended_halted : (old : Machine) (given : Answer) (new : Machine) → Change old machines.end given new → EndsAs given new status.Done
     → new.life ≡ halted
 ended_halted old stopped new (inl (up, choice, may, comes)) how =
-    answered choice (effect (now_of old) stop) old stopped new refl comes refl
+    answered choice (effect_here old stop) (pending_behind old stop) old stopped new refl comes refl
 ended_halted old stopped new (inr (down, (is, so))) how = absurd cc
 ended_halted old is_down new change how = how
 ended_halted old given new change how = absurd how
 
-failed_life : (c : Choice) (e : Effect) (old : Machine) (name : List ℕ) (new : Machine) → e.answer ≡ stopped
-    → Comes c e old (fault name) new → new.life ≡ faulted
-failed_life as_asked e old name new told (is, so) = let other = is ∙ told in absurd cc
-failed_life out_of_memory e old name new told (is, so) = absurd cc
-failed_life (failed file) e old name new told (is, so) = ap (λ (m : Machine). m.life) so
+failed_life : (c : Choice) (e : Effect) (pending : List Txn) (old : Machine) (name : List ℕ) (new : Machine) → e.answer ≡ stopped
+    → Comes c e pending old (fault name) new → new.life ≡ faulted
+failed_life as_asked e pending old name new told (is, so) = let other = is ∙ told in absurd cc
+failed_life out_of_memory e pending old name new told (is, so) = absurd cc
+failed_life (failed file) e pending old name new told (is, so) = ap (λ (m : Machine). m.life) so
 
 ended_faulted : (old : Machine) (given : Answer) (new : Machine) → Change old machines.end given new → EndsAs given new status.DiskFault
     → new.life ≡ faulted
 ended_faulted old (fault name) new (inl (up, choice, may, comes)) how =
-    failed_life choice (effect (now_of old) stop) old name new refl comes
+    failed_life choice (effect_here old stop) (pending_behind old stop) old name new refl comes
 ended_faulted old (fault name) new (inr (down, (is, so))) how = absurd cc
 ended_faulted old is_down new change how = how
 ended_faulted old given new change how = absurd how
@@ -98,8 +99,8 @@ up_ruins out_of_memory old name at new (told, so) = absurd cc
 up_ruins (failed file) old name at new (named, told, so) = absurd cc
 
 comes_undamaged : (choice : Choice) (w : Command) (old : Machine) (name : List ℕ) (at : ℕ) (new : Machine)
-    → Comes choice (effect (now_of old) w) old (damaged name at) new → ⊥
-comes_undamaged as_asked w old name at new (told, so) = answers_undamaged (now_of old) w name at (sym told)
+    → Comes choice (effect_here old w) (pending_behind old w) old (damaged name at) new → ⊥
+comes_undamaged as_asked w old name at new (told, so) = answers_undamaged (now_of old) old.pending w name at (sym told)
 comes_undamaged out_of_memory w old name at new (told, so) = cc
 comes_undamaged (failed file) w old name at new (told, so) = cc
 

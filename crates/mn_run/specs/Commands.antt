@@ -2,8 +2,10 @@
 use Rattle.std.specs.Prelude.{◌≡◌, ℕ, List, [], ◌∷◌, Option, Some, None, Result, Ok, Err}
 use Rattle.term_core.specs.Tree.{Tree}
 use Rattle.db_model.specs.Definitions.{Definition}
+use Rattle.db_model.specs.Ops as ops
 use Rattle.db_model.specs.Options.{IsDefinedBy, IsRefusal}
 use Rattle.db_model.specs.declared.error.DefErr.{DefErr}
+use Rattle.txn_core.specs.Calls as calls
 use Rattle.mn_node.specs.Effects as effects
 use Rattle.mn_node.specs.Machine.{Event}
 use Rattle.mn_node.specs.Machine as machine
@@ -45,6 +47,19 @@ IsAskedAs (script.create_table name options) event =
 IsAskedAs (script.delete_table name) event = event ≡ machine.command (effects.delete_table name)
 IsAskedAs script.tables event = event ≡ machine.command effects.tables
 IsAskedAs (script.table_info name) event = event ≡ machine.command (effects.table_info name)
+IsAskedAs (script.begin name) event = event ≡ machine.command (effects.begin name)
+IsAskedAs (script.write name table item) event =
+    event ≡ machine.command (effects.ask name (calls.change (ops.write table item)))
+IsAskedAs (script.delete name table key) event =
+    event ≡ machine.command (effects.ask name (calls.change (ops.delete table key)))
+IsAskedAs (script.delete_object name table item) event =
+    event ≡ machine.command (effects.ask name (calls.change (ops.delete_object table item)))
+IsAskedAs (script.read name table key) event = event ≡ machine.command (effects.ask name (calls.read table key))
+IsAskedAs (script.match_object name table pattern) event =
+    event ≡ machine.command (effects.ask name (calls.match_object table pattern))
+IsAskedAs (script.all_keys name table) event = event ≡ machine.command (effects.ask name (calls.all_keys table))
+IsAskedAs (script.commit name) event = event ≡ machine.command (effects.commit_txn name)
+IsAskedAs (script.abort name) event = event ≡ machine.command (effects.abort name)
 
 abbrev pub IsEventOf : Request → Event → Type 0
 IsEventOf (asks command) event = IsAskedAs command event

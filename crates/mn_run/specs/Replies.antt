@@ -3,7 +3,7 @@ use Rattle.std.specs.Prelude.{ℕ, pos, List, [], ◌∷◌, ◌++◌, codes, Op
 use Rattle.term_core.specs.Tree.{Tree, int, atom, tuple, list, no_trees, tree}
 use Rattle.term_core.specs.View.{trees_of}
 use Rattle.term_text.specs.Printing.{printed}
-use Rattle.mn_node.specs.Effects.{Answer, started, done, found, synced, stopped, no_table, exists, bad_record, bad_name, bad_option, too_many_tables, too_many_versions, too_long, bad_line, silent, is_down, is_up, no_memory, fault, damaged}
+use Rattle.mn_node.specs.Effects.{Answer, started, done, ok, found, synced, stopped, no_table, exists, bad_record, bad_name, bad_option, no_transaction, locked, too_many_tables, too_many_versions, too_long, too_many_transactions, too_many_calls, bad_line, silent, is_down, is_up, no_memory, fault, damaged}
 
 -- `{name,value}`
 abbrev pub tagged : List ℕ → Tree → Tree
@@ -21,6 +21,7 @@ refusal word value = tagged (codes "aborted") (tagged word value)
 abbrev pub reply_of : Answer → Option Tree
 reply_of (started n) = Some (tagged (codes "started") (int (pos n)))
 reply_of done = Some (tagged (codes "atomic") (atom (codes "ok")))
+reply_of ok = Some (atom (codes "ok"))
 reply_of (found terms) = Some (list (trees_of terms))
 reply_of synced = Some (atom (codes "ok"))
 reply_of stopped = Some (atom (codes "stopped"))
@@ -29,9 +30,13 @@ reply_of (exists name) = Some (refusal (codes "already_exists") (atom name))
 reply_of (bad_record item) = Some (refusal (codes "bad_type") item)
 reply_of (bad_name name) = Some (refusal (codes "bad_name") (atom name))
 reply_of (bad_option place) = Some (refusal (codes "bad_option") (int (pos place)))
+reply_of (no_transaction name) = Some (refusal (codes "no_transaction") (atom name))
+reply_of (locked by) = Some (refusal (codes "locked") (atom by))
 reply_of too_many_tables = Some (refusal (codes "limit") (atom (codes "tables")))
 reply_of too_many_versions = Some (refusal (codes "limit") (atom (codes "versions")))
 reply_of too_long = Some (refusal (codes "limit") (atom (codes "commit")))
+reply_of too_many_transactions = Some (refusal (codes "limit") (atom (codes "transactions")))
+reply_of too_many_calls = Some (refusal (codes "limit") (atom (codes "calls")))
 reply_of (bad_line at) = Some (tagged (codes "badarg") (int (pos at)))
 reply_of silent = None
 reply_of is_down = Some (tagged (codes "error") (atom (codes "down")))

@@ -52,6 +52,21 @@ fn line_of(alloc: Global, command: mn_script::Command) -> Line
         mn_script::Command::DeleteTable(name) => Line::Do(Command::DeleteTable(name)),
         mn_script::Command::Tables => Line::Do(Command::Tables),
         mn_script::Command::TableInfo(name) => Line::Do(Command::TableInfo(name)),
+        mn_script::Command::Begin(name) => Line::Do(Command::Begin(name)),
+        mn_script::Command::Write(name, table, record) => Line::Do(Command::Write(
+            name, table, record,
+        )),
+        mn_script::Command::Delete(name, table, key) => Line::Do(Command::Delete(name, table, key)),
+        mn_script::Command::DeleteObject(name, table, record) => Line::Do(Command::DeleteObject(
+            name, table, record,
+        )),
+        mn_script::Command::Read(name, table, key) => Line::Do(Command::Read(name, table, key)),
+        mn_script::Command::MatchObject(name, table, pattern) => Line::Do(Command::MatchObject(
+            name, table, pattern,
+        )),
+        mn_script::Command::AllKeys(name, table) => Line::Do(Command::AllKeys(name, table)),
+        mn_script::Command::Commit(name) => Line::Do(Command::Commit(name)),
+        mn_script::Command::Abort(name) => Line::Do(Command::Abort(name)),
     }
 }
 

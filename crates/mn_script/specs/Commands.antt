@@ -28,6 +28,16 @@ pub data Command : Type 0 where
   delete_table : (name : List ℕ) → Command
   tables : Command
   table_info : (name : List ℕ) → Command
+  -- of the transaction of this name
+  begin : (name : List ℕ) → Command
+  write : (name table : List ℕ) (item : Tree) → Command
+  delete : (name table : List ℕ) (key : Tree) → Command
+  delete_object : (name table : List ℕ) (item : Tree) → Command
+  read : (name table : List ℕ) (key : Tree) → Command
+  match_object : (name table : List ℕ) (pattern : Tree) → Command
+  all_keys : (name table : List ℕ) → Command
+  commit : (name : List ℕ) → Command
+  abort : (name : List ℕ) → Command
 
 -- a command of the code
 abbrev pub seen : code.Command → Command
@@ -40,6 +50,15 @@ seen (code_command.CreateTable name options) = create_table name (tree_of option
 seen (code_command.DeleteTable name) = delete_table name
 seen code_command.Tables = tables
 seen (code_command.TableInfo name) = table_info name
+seen (code_command.Begin name) = begin name
+seen (code_command.Write name table item) = write name table (tree_of item)
+seen (code_command.Delete name table key) = delete name table (tree_of key)
+seen (code_command.DeleteObject name table item) = delete_object name table (tree_of item)
+seen (code_command.Read name table key) = read name table (tree_of key)
+seen (code_command.MatchObject name table pattern) = match_object name table (tree_of pattern)
+seen (code_command.AllKeys name table) = all_keys name table
+seen (code_command.Commit name) = commit name
+seen (code_command.Abort name) = abort name
 
 -- ---- the table of forms
 
@@ -71,6 +90,15 @@ rows =
     ∷ row (codes "delete_table") (Atom ∷ []) delete_table
     ∷ row (codes "tables") [] tables
     ∷ row (codes "table_info") (Atom ∷ []) table_info
+    ∷ row (codes "begin") (Atom ∷ []) begin
+    ∷ row (codes "write") (Atom ∷ Atom ∷ Term ∷ []) write
+    ∷ row (codes "delete") (Atom ∷ Atom ∷ Term ∷ []) delete
+    ∷ row (codes "delete_object") (Atom ∷ Atom ∷ Term ∷ []) delete_object
+    ∷ row (codes "read") (Atom ∷ Atom ∷ Term ∷ []) read
+    ∷ row (codes "match_object") (Atom ∷ Atom ∷ Term ∷ []) match_object
+    ∷ row (codes "all_keys") (Atom ∷ Atom ∷ []) all_keys
+    ∷ row (codes "commit") (Atom ∷ []) commit
+    ∷ row (codes "abort") (Atom ∷ []) abort
     ∷ []
 
 abbrev pub form_of : Row → Shape
@@ -86,16 +114,7 @@ later =
     ∷ codes "add_table_index"
     ∷ codes "del_table_index"
     ∷ codes "transform_table"
-    ∷ codes "begin"
-    ∷ codes "write"
-    ∷ codes "delete"
-    ∷ codes "delete_object"
-    ∷ codes "read"
-    ∷ codes "match_object"
     ∷ codes "index_read"
-    ∷ codes "all_keys"
-    ∷ codes "commit"
-    ∷ codes "abort"
     ∷ codes "activate_checkpoint"
     ∷ codes "deactivate_checkpoint"
     ∷ codes "checkpoint_read"

@@ -48,6 +48,32 @@ pub fn atom_and_term(arguments: Items<Term>) -> Option<(Atom, Term)>
     Some((atom, term))
 }
 
+/// The two atoms, where they are the arguments.
+pub fn two_atoms(arguments: Items<Term>) -> Option<(Atom, Atom)>
+    ensures { (make : List ℕ → List ℕ → Command)
+        → option_map (λ x. make x.0 x.1) result ≡ made_of (kind.Atom ∷ kind.Atom ∷ []) make (map tree_of arguments) }
+{
+    let mut rest = arguments;
+    let first = next_atom(&mut rest)?;
+    let second = next_atom(&mut rest)?;
+    if !rest.is_empty() {
+        return None;
+    }
+    Some((first, second))
+}
+
+/// The two atoms and the term, where they are the arguments.
+pub fn two_atoms_and_term(arguments: Items<Term>) -> Option<(Atom, Atom, Term)>
+    ensures { (make : List ℕ → List ℕ → Tree → Command)
+        → option_map (λ x. make x.0 x.1 (tree_of x.2)) result
+        ≡ made_of (kind.Atom ∷ kind.Atom ∷ kind.Term ∷ []) make (map tree_of arguments) }
+{
+    let mut rest = arguments;
+    let first = next_atom(&mut rest)?;
+    let (second, term) = atom_and_term(rest)?;
+    Some((first, second, term))
+}
+
 /// The first argument, where it is an atom.
 fn next_atom(arguments: &mut Items<Term>) -> Option<Atom>
     ensures { option_map (λ a. (a, map tree_of arguments.new)) result ≡ first_atom (map tree_of arguments.old) }

@@ -8,7 +8,7 @@ ghost use Rattle.mn_script.specs.Grammar.{HasArgument};
 ghost use Rattle.mn_script.specs.Commands as commands;
 ghost use Rattle.mn_script.specs.Commands.{Answers, Asked, IsMeant, asked, seen};
 
-use crate::arguments::{atom_and_term, no_argument, one_atom};
+use crate::arguments::{atom_and_term, no_argument, one_atom, two_atoms, two_atoms_and_term};
 use crate::forms::{Form, Kind};
 use crate::reading::{LineErr, read_line};
 use sqlite_items::Items;
@@ -36,10 +36,28 @@ pub enum Command {
     Tables,
     /// The options of the table, and how many records it has.
     TableInfo(Atom),
+    /// To begin a transaction of this name. In each command of a transaction its name comes first.
+    Begin(Atom),
+    /// To write this record into the table.
+    Write(Atom, Atom, Term),
+    /// To delete the records of the table with this key.
+    Delete(Atom, Atom, Term),
+    /// To delete this record of the table.
+    DeleteObject(Atom, Atom, Term),
+    /// The records of the table with this key, as the transaction has them.
+    Read(Atom, Atom, Term),
+    /// The records of the table that match this pattern, as the transaction has them.
+    MatchObject(Atom, Atom, Term),
+    /// The keys of the table, as the transaction has them.
+    AllKeys(Atom, Atom),
+    /// To do all that the transaction wrote.
+    Commit(Atom),
+    /// To drop the transaction.
+    Abort(Atom),
 }
 
 /// The forms of the commands, each with the number by which `command_of` knows it.
-const FORMS: [Form<'static>; 9] = [
+const FORMS: [Form<'static>; 18] = [
     Form {
         word: b"start",
         kinds: &[],
@@ -76,24 +94,51 @@ const FORMS: [Form<'static>; 9] = [
         word: b"table_info",
         kinds: &[Kind::Atom],
     },
+    Form {
+        word: b"begin",
+        kinds: &[Kind::Atom],
+    },
+    Form {
+        word: b"write",
+        kinds: &[Kind::Atom, Kind::Atom, Kind::Term],
+    },
+    Form {
+        word: b"delete",
+        kinds: &[Kind::Atom, Kind::Atom, Kind::Term],
+    },
+    Form {
+        word: b"delete_object",
+        kinds: &[Kind::Atom, Kind::Atom, Kind::Term],
+    },
+    Form {
+        word: b"read",
+        kinds: &[Kind::Atom, Kind::Atom, Kind::Term],
+    },
+    Form {
+        word: b"match_object",
+        kinds: &[Kind::Atom, Kind::Atom, Kind::Term],
+    },
+    Form {
+        word: b"all_keys",
+        kinds: &[Kind::Atom, Kind::Atom],
+    },
+    Form {
+        word: b"commit",
+        kinds: &[Kind::Atom],
+    },
+    Form {
+        word: b"abort",
+        kinds: &[Kind::Atom],
+    },
 ];
 
 /// The words of commands that are not here yet.
-const LATER: [&[u8]; 26] = [
+const LATER: [&[u8]; 17] = [
     b"dump_log",
     b"add_table_index",
     b"del_table_index",
     b"transform_table",
-    b"begin",
-    b"write",
-    b"delete",
-    b"delete_object",
-    b"read",
-    b"match_object",
     b"index_read",
-    b"all_keys",
-    b"commit",
-    b"abort",
     b"activate_checkpoint",
     b"deactivate_checkpoint",
     b"checkpoint_read",
@@ -143,6 +188,25 @@ fn command_of(number: usize, arguments: Items<Term>) -> Option<Command>
         6 => one_atom(arguments).map(Command::DeleteTable),
         7 => no_argument(&arguments).map(|()| Command::Tables),
         8 => one_atom(arguments).map(Command::TableInfo),
+        9 => one_atom(arguments).map(Command::Begin),
+        10 => two_atoms_and_term(arguments).map(|(name, table, record)| Command::Write(
+            name, table, record,
+        )),
+        11 => two_atoms_and_term(arguments).map(|(name, table, key)| Command::Delete(
+            name, table, key,
+        )),
+        12 => two_atoms_and_term(arguments).map(|(name, table, record)| Command::DeleteObject(
+            name, table, record,
+        )),
+        13 => two_atoms_and_term(arguments).map(|(name, table, key)| Command::Read(
+            name, table, key,
+        )),
+        14 => two_atoms_and_term(arguments).map(|(name, table, pattern)| Command::MatchObject(
+            name, table, pattern,
+        )),
+        15 => two_atoms(arguments).map(|(name, table)| Command::AllKeys(name, table)),
+        16 => one_atom(arguments).map(Command::Commit),
+        17 => one_atom(arguments).map(Command::Abort),
         _ => None,
     }
 }

@@ -1,5 +1,5 @@
 -- What a command does that is tried on an open log and its table.
-use Rattle.std.specs.Prelude.{◌≡◌, ◌⊎◌, ℕ, ◌+◌, ◌≤◌, Bool, true, false, IsTrue, if◌then◌else◌, List, [], ◌∷◌, ◌++◌, length, is_some, Result, Ok, Err, IfOk, IsErrOf}
+use Rattle.std.specs.Prelude.{◌≡◌, ◌⊎◌, ℕ, ◌+◌, ◌≤◌, Bool, true, false, IsTrue, if◌then◌else◌, List, [], ◌∷◌, ◌++◌, length, Some, None, is_some, Result, Ok, Err, IfOk, OnErr, IsErrOf}
 use Rattle.file_trait.specs.DiskModel.{Past, reads}
 use Rattle.file_trait.specs.Moments.{Moments}
 use Rattle.file_trait.specs.Touched.{Touches}
@@ -9,16 +9,19 @@ use Rattle.disk_logs.specs.Errors.{OnlyFileOrMemory}
 use Rattle.disk_logs.specs.Logs.{IsLog}
 use Rattle.disk_logs.specs.declared.error.LogErr.{LogErr}
 use Rattle.db_model.specs.Commits.{CommitRecord}
+use Rattle.db_model.specs.Database.{do_commit}
 use Rattle.db_model.specs.Histories.{AreLawful}
+use Rattle.db_state.specs.Live.{database}
+use Rattle.txn_core.specs.Pending.{Txn}
 use Rattle.txn_log.specs.Logs as logs
 use Rattle.txn_log.specs.Logs.{LogState, Reads, TxnStands, handle, IsLogName}
 use Rattle.mn_node.specs.Calls.{Calls}
-use Rattle.mn_node.specs.Durable.{made}
-use Rattle.mn_node.specs.Effects.{Effect, adds, Answer, goes_to_disk, is_no_memory, is_fault, no_memory, fault, is_down}
+use Rattle.mn_node.specs.Durable.{Durable, made}
+use Rattle.mn_node.specs.Effects.{Effect, adds, length_refusal, Answer, too_long, goes_to_disk, is_no_memory, is_fault, no_memory, fault, is_down}
 use Rattle.mn_node.specs.Machine.{commits_of, entries_of}
 use Rattle.mn_node.specs.Meaning.{latest}
 use Rattle.mn_node.specs.Seen.{answer}
-use Rattle.mn_node.specs.Shown.{OpenShows}
+use Rattle.mn_node.specs.Shown.{OpenShows, Pends}
 use Rattle.mn_node.specs.declared.node.Node.{Node}
 use Rattle.mn_node.specs.declared.node.State.TheVariants.{Stopped, Faulted}
 use Rattle.mn_node.specs.declared.open.Done.{Done}
@@ -59,6 +62,16 @@ ComesOut e commits synced (Err (File name doubt)) live past =
     IsTrue (goes_to_disk e) × (name ≡ latest) × (doubt ≡ is_some e.entry)
     × (Reads commits (reads past latest) ⊎ Reads (commits ++ appended e) (reads past latest))
 
+-- the durable state of a live database
+abbrev pub durable : Open → Durable
+durable live = record { database = database live.tables }
+
+-- what is pending behind a command, where these were before and those are where it is done
+abbrev pub PendsOut : Result Done Trouble → Open → List Txn → List Txn → Type 0
+PendsOut (Ok done) live before later = done.halts ≡ false → Pends live later
+PendsOut (Err Memory) live before later = Pends live before
+PendsOut (Err (File name doubt)) live before later = Unit {0}
+
 -- what a crash may find added
 abbrev pub more_of : Effect → Result Done Trouble → List CommitRecord
 more_of e (Err Memory) = []
@@ -93,6 +106,17 @@ pub record Appends (settles : Bool) (c : CommitRecord) (commits : List CommitRec
 -- only a reply is given
 abbrev pub only : Reply → Done
 only reply = record { reply = reply; wrote = false; settles = false; halts = false }
+
+-- A commit was to be done: where it was appended the live database has it, and else all tables are as before. No
+-- transaction is touched.
+pub record CommitsTo (c : CommitRecord) (old new : Open) (result : Result Done Trouble) : Type 0 where
+  pub txns : new.txns ≡ old.txns
+  pub done : IfOk result (λ done. database new.tables
+      ≡ (if done.wrote then do_commit c (database old.tables) else database old.tables))
+  pub on : IfOk result (λ done. done.halts ≡ false)
+  -- only its length can bar it
+  pub fits : IfOk result (λ done. length_refusal c ≡ (if done.wrote then None else Some too_long))
+  pub kept : OnErr result (new.tables ≡ old.tables)
 
 -- why the options define no table of this name is what is answered
 abbrev pub IsUndefined : DefErr → List ℕ → Result Done Trouble → Type 0

@@ -7,6 +7,7 @@ use Rattle.txn_log.specs.Logs.{Reads, OldOrCommits}
 use Rattle.mn_node.specs.Meaning.{latest}
 use Rattle.mn_node.specs.declared.starting.StartErr.TheVariants.{Damaged, File}
 use Rattle.mn_node.proofs.Loading.{calls_as, start_calls, synced_moments, opened_moments, synced_stays, sound_now, opened_stays, untouched_log, log_touched, opened_touched, same_log, commits_read, left_as, opens, loaded_means, fails_broken}
+use Rattle.mn_node.proofs.TxnKept.{none_pends}
 use Rattle.mn_node.proofs.starting.start.Goals as goal
 
 -- ---- the log could not be read
@@ -86,7 +87,8 @@ returns-in-Ok-clause-started g c told sound commits has can safe =
     let mid : Past = g.D.Disk.past c.synced_directory.new.disk in
     let same = c.in_ok-read.ensures.same told in
     let synced = c.in_ok-synced_directory.ensures in
-    opens (record { log = c.in-Ok.log; tables = c.in_ok-tables.tables }) old (g.D.Disk.past c.open.new.disk) commits can safe has
+    opens (record { log = c.in-Ok.log; tables = c.in_ok-tables.tables; txns = c.new.result }) old (g.D.Disk.past c.open.new.disk) commits
+    can safe has
     (c.in_ok-tables.ensures.loads (reads old) (c.in_ok-read.ensures.read told))
     (c.in-Ok.ensures.stands commits told (commits_read old read mid commits has same (synced.as_before told)) (synced.settled told)
     (sound_now old mid (synced_stays old read mid same (synced.sound told)) sound))
@@ -197,3 +199,8 @@ returns-in_err-synced_directory-clause-calls g c =
     let p = err_from_is_err_and c.from_residual-in_err-synced_directory.result c.from_residual-in_err-synced_directory.ensures.1 in
     rw (p.1, p.2) (calls_as c.in_err-synced_directory.field-0.0 (c.in_ok-read.ensures.calls.answered (λ name is. absurd (cc is)))
     c.in_err-synced_directory.ensures.calls)
+
+pub returns-in-Ok-clause-pends : goal.returns-in-Ok-clause-pends
+returns-in-Ok-clause-pends g c =
+    none_pends (record { log = c.in-Ok.log; tables = c.in_ok-tables.tables; txns = c.new.result }) c.new.ensures c.order_law.ensures
+    c.key_law.ensures c.in_ok-tables.ensures.named

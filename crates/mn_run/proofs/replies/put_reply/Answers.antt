@@ -19,6 +19,12 @@ returns-in-BadOption c =
     (tree_of c.number.result) (int (pos c.in-BadOption.place)) (answer c.args.reply.now)
     c.number.ensures (ap (λ (r : Reply). reply_of (answer r)) c.in-BadOption.is) c.put_refusal-in-BadOption.ensures
 
+pub returns-in_ok-named-in-Locked : goal.returns-in_ok-named-in-Locked
+returns-in_ok-named-in-Locked c =
+    refusal_put c.put_refusal-in-Locked.result c.args.out.now.items c.put_refusal-in-Locked.new.out.items (codes "locked")
+    (tree_of c.in_ok-named-in-Locked.field-0) (atom c.in-Locked.by) (answer c.args.reply.now)
+    c.in_ok-named-in-Locked.ensures (ap (λ (r : Reply). reply_of (answer r)) c.in-Locked.is) c.put_refusal-in-Locked.ensures
+
 pub returns-in_ok-atom-in-TooManyTables : goal.returns-in_ok-atom-in-TooManyTables
 returns-in_ok-atom-in-TooManyTables c =
     refusal_put c.put_refusal-in-TooManyTables.result c.args.out.now.items c.put_refusal-in-TooManyTables.new.out.items (codes "limit")

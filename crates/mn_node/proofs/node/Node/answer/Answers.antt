@@ -1,10 +1,10 @@
-use Rattle.std.proofs.Common.{refl, ap}
-use Rattle.mn_node.specs.Inside.Tries.{failed_answer}
-use Rattle.mn_node.specs.Effects.{is_down}
+use Rattle.std.proofs.Common.{Ok, Err, refl, ap}
+use Rattle.mn_node.specs.Inside.Tries.{durable, failed_answer}
+use Rattle.mn_node.specs.Effects.{is_down, pending_after}
 use Rattle.mn_node.specs.Machine.{command}
 use Rattle.mn_node.specs.Seen as seen
 use Rattle.mn_node.proofs.NodeOwes.{failed_owes, same_owes}
-use Rattle.mn_node.proofs.NodeSteps.{settled_steps, failed_steps, down_steps, not_up, up_shows, tried_at, steps_at}
+use Rattle.mn_node.proofs.NodeSteps.{settled_steps, failed_steps, down_steps, not_up, up_shows, up_pends, pends_at, tried_at, steps_at, kept_pending, whole_pending}
 use Rattle.mn_node.proofs.node.Node.answer.Goals as goal
 
 pub returns-in_default : goal.returns-in_default
@@ -28,11 +28,14 @@ returns-in-Ok-clause-steps g c told first old shown =
     let asked = seen.asked c.args.command in
     let live = c.attempt-tried.new.self in
     let done = c.in-Ok.done in
+    let open_shows = up_shows first before now node c.in-Up.live old up shown asked in
+    let pends = up_pends first before now node c.in-Up.live old up shown asked in
+    let later = pends_at first before now node c.in-Up.live old up shown asked (Ok done) live (c.in-Ok.ensures.pends old.pending pends) in
     let did = c.in-Ok.ensures in
     let tried = tried_at first before now node c.in-Up.live old up shown asked _ live
-    (did.tries told _ _ (up_shows first before now node c.in-Up.live old up shown asked)) in
+    (did.tries told _ _ old.pending open_shows pends) in
     steps_at first before now old (command asked) _ (seen.answer done.reply) node _ _ (ap seen.answer c.settle.ensures.reply)
-    c.settle.ensures.node (settled_steps first before now node c.in-Up.live old up shown asked live done tried did.owes.plain)
+    c.settle.ensures.node (settled_steps first before now node c.in-Up.live old up shown asked live done tried later did.owes.plain)
 
 pub returns-in-Err-clause-steps : goal.returns-in-Err-clause-steps
 returns-in-Err-clause-steps g c told first old shown =
@@ -43,10 +46,14 @@ returns-in-Err-clause-steps g c told first old shown =
     let asked = seen.asked c.args.command in
     let live = c.attempt-tried.new.self in
     let trouble = c.in-Err.trouble in
+    let open_shows = up_shows first before now node c.in-Up.live old up shown asked in
+    let pends = up_pends first before now node c.in-Up.live old up shown asked in
+    let later = pends_at first before now node c.in-Up.live old up shown asked (Err trouble) live
+    (c.in-Err.ensures.pends old.pending pends) in
     let tried = tried_at first before now node c.in-Up.live old up shown asked _ live
-    (c.in-Err.ensures.tries told _ _ (up_shows first before now node c.in-Up.live old up shown asked)) in
+    (c.in-Err.ensures.tries told _ _ old.pending open_shows pends) in
     steps_at first before now old (command asked) _ (failed_answer trouble) node _ _ c.fail.ensures.reply
-    c.fail.ensures.node (failed_steps first before now node c.in-Up.live old up shown asked live trouble tried)
+    c.fail.ensures.node (failed_steps first before now node c.in-Up.live old up shown asked live trouble tried later)
 
 pub returns-in-Err-clause-owes : goal.returns-in-Err-clause-owes
 returns-in-Err-clause-owes g c =
@@ -55,3 +62,5 @@ returns-in-Err-clause-owes g c =
     let did = c.in-Err.ensures in
     failed_owes g.D.Disk.tells _ _ _ _ past c.args.self.now c.in-Up.live live c.in-Up.is did.owes.few did.owes.touches c.in-Err.trouble _ _
     c.fail.ensures.reply c.fail.ensures.node did.owes.calls did.owes.log
+    (kept_pending c.in-Err.trouble c.in-Up.live live (λ pending. pending_after (durable c.in-Up.live) pending (seen.asked c.args.command))
+    (whole_pending c.args.self.now.state c.in-Up.live c.in-Up.is c.requires.whole) did.pends)

@@ -1,4 +1,4 @@
-use Rattle.std.proofs.Common.{Err, ap, refl}
+use Rattle.std.proofs.Common.{[], Err, ap, refl}
 use Rattle.mn_node.specs.Inside.Loads.{start_answer, up_node, down_node}
 use Rattle.mn_node.specs.Machine.{start}
 use Rattle.mn_node.specs.Seen as seen
@@ -20,9 +20,9 @@ returns-in-Ok g c =
       steps = λ told first old shown. steps_at first before now old start _ told_now node _ (up_node live) refl boot.node
           (start_done first before now node old c.requires.whole c.in_default.not-Up shown live told_now
           (λ none. ap seen.answer (boot.first none)) (λ base is. ap seen.answer (boot.later base is))
-          (did.started told) (did.any_moment told) (did.sound told) (did.touches told) (did.meaning told));
+          did.pends (did.started told) (did.any_moment told) (did.sound told) (did.touches told) (did.meaning told));
       owes = booted_owes g.D.Disk.tells _ _ _ before now node live c.boot.result _ boot.node boot.first boot.later did.calls.later
-          (did.calls.answered (λ name is. absurd (cc is))) did.touches did.log did.few;
+          (did.calls.answered (λ name is. absurd (cc is))) did.touches did.log did.few ([], did.pends);
     }
 
 pub returns-in-Err : goal.returns-in-Err

@@ -7,14 +7,14 @@ use Rattle.mn_node.proofs.Owed.{done_owes, undone_owes}
 use Rattle.mn_node.proofs.open.Open.close.Goals as goal
 
 pub returns-in-Ok-clause-tries : goal.returns-in-Ok-clause-tries
-returns-in-Ok-clause-tries g c told commits durable shown =
+returns-in-Ok-clause-tries g c told commits durable pending shown pends =
     let log = c.close.ensures in
     let done = c.in-Ok.ensures in
     settled shown stopped true true Stopped refl refl (done.stands commits durable told shown.log) (λ halts. done.closed)
     (log.any_moment commits durable told shown.log) (log.sound commits durable told shown.log) (touches_log _ _ (log.calls.touches told))
 
 pub returns-in-Err-clause-tries : goal.returns-in-Err-clause-tries
-returns-in-Err-clause-tries g c told commits durable shown =
+returns-in-Err-clause-tries g c told commits durable pending shown pends =
     let log = c.close.ensures in
     let failed = c.in-Err.ensures in
     unsettled shown stopped true true c.in-Err.error c.why.result refl

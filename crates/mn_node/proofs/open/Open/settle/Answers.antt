@@ -7,13 +7,13 @@ use Rattle.mn_node.proofs.Owed.{done_owes, undone_owes}
 use Rattle.mn_node.proofs.open.Open.settle.Goals as goal
 
 pub returns-in-Ok-clause-tries : goal.returns-in-Ok-clause-tries
-returns-in-Ok-clause-tries g c told commits durable shown =
+returns-in-Ok-clause-tries g c told commits durable pending shown pends =
     let log = c.sync.ensures in
     settled shown synced false false Synced refl refl (c.in-Ok.ensures.stands commits durable told shown.log) (λ halts. absurd (cc halts))
     (log.any_moment commits durable told shown.log) (log.sound commits durable told shown.log) (touches_log _ _ (log.calls.touches told))
 
 pub returns-in-Err-clause-tries : goal.returns-in-Err-clause-tries
-returns-in-Err-clause-tries g c told commits durable shown =
+returns-in-Err-clause-tries g c told commits durable pending shown pends =
     let log = c.sync.ensures in
     let failed = c.in-Err.ensures in
     unsettled shown synced false false c.in-Err.error c.why.result refl

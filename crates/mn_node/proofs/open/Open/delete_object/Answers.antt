@@ -1,0 +1,34 @@
+use Rattle.std.proofs.Common.{Some, Ok, refl, ap}
+use Rattle.term_core.specs.View.{tree_of}
+use Rattle.db_model.specs.Ops as ops
+use Rattle.txn_core.specs.Calls.{change, done}
+use Rattle.txn_core.specs.Machine as txns
+use Rattle.mn_node.specs.Effects as machine
+use Rattle.mn_node.specs.Inside.Tries.{durable}
+use Rattle.mn_node.specs.declared.reply.Reply.TheVariants as replies
+use Rattle.mn_node.proofs.TxnCommands.{came, bar_of}
+use Rattle.mn_node.proofs.TxnOutcomes.{asked_replied, asked_refused, asked_takes}
+use Rattle.mn_node.proofs.open.Open.delete_object.Goals as goal
+
+pub returns-in-Ok : goal.returns-in-Ok
+returns-in-Ok c =
+    let old = c.args.self.now in
+    let name = c.args.name in
+    let table = c.args.table in
+    let call = change (ops.delete_object table (tree_of c.args.row)) in
+    let w = durable old in
+    came old c.delete_object.new.self (machine.ask name call) (txns.ask name call) tt (txns.replied done) c.in-Ok.ensures
+    (machine.keeps machine.ok)
+    (λ pending later h. asked_replied w pending name call later done h) replies.Ok (Ok c.told.result) (ap Ok c.told.ensures) refl refl refl
+    refl (record { fault = refl; memory = refl; up = λ h. absurd (cc h) })
+
+pub returns-in-Err : goal.returns-in-Err
+returns-in-Err c =
+    let old = c.args.self.now in
+    let name = c.args.name in
+    let table = c.args.table in
+    let call = change (ops.delete_object table (tree_of c.args.row)) in
+    let w = durable old in
+    bar_of old c.delete_object.new.self (machine.ask name call) (txns.ask name call) tt name call
+    (λ pending later why h. asked_refused w pending name call later why h) (λ pending. asked_takes w pending name call)
+    c.in-Err.error (Some table) c.args.row c.barred.result c.in-Err.ensures refl refl c.barred.ensures
