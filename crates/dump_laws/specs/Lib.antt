@@ -1,0 +1,6 @@
+pub mod Effects
+pub mod Contents
+pub mod Directory
+pub mod Order
+pub mod Left
+pub mod Lists
