@@ -17,7 +17,7 @@ use Rattle.txn_core.specs.Locks.{whole_table}
 use Rattle.txn_core.specs.Pending.{Txn, calls_of, named, holder}
 use Rattle.txn_core.specs.Refusals.{Refusal, no_txn, txn_exists, too_many, fits, begin_refusal, call_refusal}
 use Rattle.txn_core.specs.Refusals as refusals
-use Rattle.mn_node.specs.Effects.{Command, put, get, create_table, delete_table, tables, table_info, sync_log, stop, begin, ask, commit_txn, abort, Answer, ok, started, damaged, no_table, exists, bad_record, too_many_tables, too_many_versions, too_long, Effect, refuses, adds, finds, keeps, unless, unless_held, unless_barred, refusal_answer, holder_for, length_refusal, commits, write_of, put_effect, get_effect, version_refusal, create_refusal, create_effect, delete_effect, info_effect, reply_answer, reply_to, ops_effect, commit_effect, abort_effect, effect}
+use Rattle.mn_node.specs.Effects.{Command, put, get, create_table, delete_table, tables, table_info, sync_log, stop, begin, ask, commit_txn, abort, Answer, ok, started, damaged, exists, bad_record, too_many_tables, too_many_versions, too_long, Effect, refuses, adds, finds, keeps, unless, unless_held, unless_barred, refusal_answer, holder_for, length_refusal, commits, write_of, put_effect, get_effect, version_refusal, create_refusal, create_effect, delete_effect, info_effect, reply_answer, reply_to, ops_effect, commit_effect, abort_effect, effect}
 
 -- no answer to a start
 abbrev pub IsOfCommand : Answer → Type 0

@@ -6,7 +6,9 @@ pub mod Histories
 pub mod Loading
 pub mod Lookups
 pub mod MachineLaws
+pub mod TakenCommits
 pub mod Named
+pub mod Orderly
 pub mod NodeFacts
 pub mod NodeOwes
 pub mod NodeStarts
@@ -15,6 +17,8 @@ pub mod Owed
 pub mod Prefixes
 pub mod Refusals
 pub mod TxnOutcomes
+pub mod TxnSteps
 pub mod TxnCommands
 pub mod TxnCommits
 pub mod TxnKept
+pub mod TxnRuns

@@ -1,15 +1,11 @@
 -- A command on pending transactions does what the machine says, by what the code's transactions answered.
-use Rattle.std.proofs.Common.{◌≡◌, ℕ, true, false, IsTrue, List, Option, None, Some, Result, Ok, Err, refl, sym, ap, ◌∙◌, subst, inl}
-use Rattle.std.specs.Prelude.{unwrap_or, map}
+use Rattle.std.proofs.Common.{◌≡◌, ℕ, true, false, List, Option, None, Some, Result, Ok, Err, refl, sym, ap, ◌∙◌, subst, inl}
+use Rattle.std.specs.Prelude.{unwrap_or}
 use Rattle.term_core.specs.View.{tree_of}
 use Rattle.term_core.specs.declared.term.Term.{Term}
-use Rattle.sqlite_items.specs.declared.items.Items.{Items}
-use Rattle.file_trait.specs.DiskModel.{Past}
-use Rattle.db_model.specs.Commits.{CommitRecord}
 use Rattle.db_model.specs.Database.{Table}
-use Rattle.db_state.specs.Live.{database}
-use Rattle.txn_core.specs.Calls.{Call, Reply, table_called}
-use Rattle.txn_core.specs.Machine.{State, Order, IsOrderly, replied, refused, Answer, happens, ask, begin}
+use Rattle.txn_core.specs.Calls.{Call, table_called}
+use Rattle.txn_core.specs.Machine.{Order, IsOrderly, refused, Answer, happens}
 use Rattle.txn_core.specs.Pending.{Txn}
 use Rattle.txn_core.specs.Refusals.{Refusal}
 use Rattle.txn_core.specs.Refusals as why
@@ -19,21 +15,20 @@ use Rattle.txn_core.specs.declared.error.TxnErr.{TxnErr}
 use Rattle.txn_core.specs.declared.error.TxnErr.TheVariants as txns
 use Rattle.txn_core.specs.declared.txns.Txns.{Txns}
 use Rattle.txn_core.proofs.SoundSteps.{sound_step}
-use Rattle.mn_node.specs.Durable.{Durable, made}
+use Rattle.mn_node.specs.Durable.{Durable}
 use Rattle.mn_node.specs.Effects as effects
 use Rattle.mn_node.specs.Effects.{Command, Effect, effect, bars, reply_answer, refusal_answer, item_of, pending_after}
-use Rattle.mn_node.specs.Inside.Transacts.{IsOnly, ToldOut, Transacts, IsBarOf}
-use Rattle.mn_node.specs.Inside.Tries.{Tries, IsPlain, PendsOut, durable, only}
+use Rattle.mn_node.specs.Inside.Transacts.{IsOnly, Transacts, IsBarOf}
+use Rattle.mn_node.specs.Inside.Tries.{IsPlain, durable, only}
 use Rattle.mn_node.specs.Seen.{answer}
-use Rattle.mn_node.specs.Shown.{OpenShows, Pends}
+use Rattle.mn_node.specs.Shown.{Pends}
 use Rattle.mn_node.specs.declared.open.Done.{Done}
 use Rattle.mn_node.specs.declared.open.Open.{Open}
 use Rattle.mn_node.specs.declared.open.Trouble.{Trouble}
-use Rattle.mn_node.specs.declared.open.Trouble.TheVariants.{File, Memory}
+use Rattle.mn_node.specs.declared.open.Trouble.TheVariants.{Memory}
 use Rattle.mn_node.specs.declared.reply.Reply.TheVariants as replies
 use Rattle.mn_node.specs.declared.reply.Reply as code
-use Rattle.mn_node.proofs.Acts.{IsAnswered, only_told, wanted_memory}
-use Rattle.mn_node.proofs.TxnOutcomes.{here, comes, asked_replied, asked_refused, asked_takes, begun_ok, begun_refused, begun_takes}
+use Rattle.mn_node.proofs.TxnOutcomes.{here, comes}
 
 module _ (old : Open) (new_txns : Txns) where
   abbrev new : Open

@@ -8,7 +8,7 @@ use Rattle.std.proofs.lemmas.List.Elements.{All-nil, All-head, All-tail, All-fro
 use Rattle.term_core.specs.Tree.{depth, greatest_depth}
 use Rattle.file_trait.specs.DiskModel.{Past}
 use Rattle.db_model.specs.Commits.{CommitRecord}
-use Rattle.db_model.specs.Database.{Table, Database, is_called, do_commit, do_op, do_ops, with_op}
+use Rattle.db_model.specs.Database.{Table, Database, do_commit, do_ops}
 use Rattle.db_model.specs.Definitions.{Definition}
 use Rattle.db_model.specs.Lawful.{table_in, IsAllowedIn, IsLawful, HasCookie}
 use Rattle.db_model.specs.Ops.{Operation, write, delete, delete_object, clear, table_of, op_tree}
@@ -26,7 +26,7 @@ use Rattle.txn_core.specs.declared.error.TxnErr.{TxnErr}
 use Rattle.txn_core.specs.declared.error.TxnErr.TheVariants.{NoTxn}
 use Rattle.txn_core.specs.declared.txns.Txns.{Txns}
 use Rattle.txn_core.proofs.AllowedOps.{ops_allowed, view-is-ops}
-use Rattle.txn_core.proofs.Each.{each_found, each_map, each_then}
+use Rattle.txn_core.proofs.Each.{each_found}
 use Rattle.txn_core.proofs.SoundPending.{sound_others}
 use Rattle.txn_core.proofs.SoundSteps.{sound_happens}
 use Rattle.txn_log.specs.Commits as logged
@@ -39,7 +39,8 @@ use Rattle.mn_node.specs.declared.open.Open.{Open}
 use Rattle.mn_node.specs.declared.open.Trouble.{Trouble}
 use Rattle.mn_node.specs.declared.open.Trouble.TheVariants.{File, Memory}
 use Rattle.mn_node.specs.declared.reply.Reply.TheVariants as replies
-use Rattle.mn_node.proofs.Named.{AreNamed, found_named}
+use Rattle.mn_node.proofs.Named.{keeps_names, found_named}
+use Rattle.mn_node.proofs.TakenCommits.{each_ops}
 
 -- ---- a commit that was done
 
@@ -89,17 +90,13 @@ commit_of version ops = record { version = version; schema_operations = []; oper
 abbrev pub HasOps : List ℕ → List Txn → List Operation → Type 0
 HasOps name pending ops = (txn : Txn) × (named name pending ≡ Some txn) × (ops ≡ ops_of (calls_of txn.kept))
 
-pub are_named : (tables : List Table) → AllByRecursion IsNamed tables → AreNamed tables
-are_named [] h = tt
-are_named (table ∷ tables) h = (h.0, are_named tables h.1)
-
 op_named : (tables : List Table) (op : Operation) → AllByRecursion IsNamed tables → IsAllowedIn tables op → logged.IsNamed op
 op_named tables op named may = by (table_in (table_of op) tables) refl may
   where
     by : (found : Option Table) → table_in (table_of op) tables ≡ found
         → IsSomeAnd found (λ table. Allows table.definition op) → logged.IsNamed op
     by None is h = absurd h
-    by (Some table) is h = found_named (table_of op) tables table (are_named tables named) is
+    by (Some table) is h = found_named (table_of op) tables table named is
 
 all_named : (tables : List Table) (ops : List Operation) → AllByRecursion IsNamed tables → All (IsAllowedIn tables) ops
     → AllByRecursion logged.IsNamed ops
@@ -125,21 +122,6 @@ ops_depth tables [] may = omega arith
 ops_depth tables (op ∷ ops) may =
     let first = op_depth op (table_in (table_of op) tables) (All-head (IsAllowedIn tables) op ops may) in
     omega (arith, first, ops_depth tables ops (All-tail (IsAllowedIn tables) op ops may))
-
--- an op changes no name
-do_op_named : (op : Operation) (tables : List Table) → AllByRecursion IsNamed tables → AllByRecursion IsNamed (do_op op tables)
-do_op_named op tables named =
-    each_map IsNamed (λ (table : Table). if is_called (table_of op) table then with_op op table else table) tables
-    (each_then IsNamed (λ table. IsNamed (if is_called (table_of op) table then with_op op table else table))
-    (λ table is. by table is (is_called (table_of op) table)) tables named)
-  where
-    by : (table : Table) → IsNamed table → (b : Bool) → IsNamed (if b then with_op op table else table)
-    by table is true = is
-    by table is false = is
-
-pub do_ops_named : (ops : List Operation) (tables : List Table) → AllByRecursion IsNamed tables → AllByRecursion IsNamed (do_ops ops tables)
-do_ops_named [] tables named = named
-do_ops_named (op ∷ ops) tables named = do_ops_named ops (do_op op tables) (do_op_named op tables named)
 
 ops_effect_some : (version : ℕ) (ops : List Operation) → (ops ≡ [] → ⊥) → ops_effect version ops ≡ commits false (commit_of version ops)
 ops_effect_some version [] some = absurd (some refl)
@@ -293,7 +275,7 @@ module _ {live : Open} {pending : List Txn} (pends : Pends live pending) (name :
         subst (λ (l : List Txn). Pends (record mid { txns = new_txns }) l) (sym (after_commit None (fits_as true wrote))) (record {
           shows = shows;
           sound = subst (λ ts. Sound record { tables = ts; pending = others name pending }) tables sound_done;
-          named = subst (AllByRecursion IsNamed) tables (do_ops_named ops here.tables pends.named);
+          named = subst (AllByRecursion IsNamed) tables (each_ops IsNamed keeps_names ops here.tables pends.named);
         })
 
     -- it is too long, and the transaction stays

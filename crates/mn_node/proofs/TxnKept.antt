@@ -1,6 +1,6 @@
 -- The transactions that are pending stay so where a command does not touch them.
-use Rattle.std.proofs.Common.{◌≡◌, ℕ, ◌+◌, ◌<◌, Bool, true, false, if◌then◌else◌, List, [], ◌∷◌, length, Option, None, Some, Result, Ok, Err, refl, sym, ap, ◌∙◌, subst, inl, arith}
-use Rattle.std.specs.Prelude.{IfOk, IsErrOf, IsNone, IsSome}
+use Rattle.std.proofs.Common.{◌≡◌, ℕ, ◌+◌, Bool, true, false, if◌then◌else◌, List, [], ◌∷◌, None, Some, Result, Ok, Err, refl, sym, ap, ◌∙◌, subst, arith}
+use Rattle.std.specs.Prelude.{IfOk, IsErrOf}
 use Rattle.std.specs.List.{AllByRecursion}
 use Rattle.term_core.specs.Tree.{Tree}
 use Rattle.file_trait.specs.DiskModel.{Past}
@@ -13,10 +13,10 @@ use Rattle.db_model.specs.Records.{Fits}
 use Rattle.db_state.specs.Live.{LiveTables, database, AreInOrder, IsKeyedTable}
 use Rattle.schema_txn.specs.Commands.{with_cookie, create_commit, delete_commit}
 use Rattle.txn_core.specs.Calls.{Call, change, reply, table_called, after}
+use Rattle.txn_core.specs.Calls as calls
 use Rattle.txn_core.specs.Locks.{lock_of, whole_table}
-use Rattle.txn_core.specs.Machine.{State, Outcome, Order, IsOrderly, Answer, replied, ok, unless_refused, unless_there, happens, single, make, drop}
+use Rattle.txn_core.specs.Machine.{State, Outcome, Order, IsOrderly, Answer, replied, ok, happens, single, make, drop}
 use Rattle.txn_core.specs.Pending.{Txn, holder}
-use Rattle.txn_core.specs.Refusals.{Refusal, bad_record, fits, lock_refusal, single_refusal, drop_refusal}
 use Rattle.txn_core.specs.Shown as shown
 use Rattle.txn_core.specs.Sound.{Sound}
 use Rattle.txn_core.proofs.SoundSteps.{sound_idle, sound_happens}
@@ -24,7 +24,7 @@ use Rattle.txn_log.specs.Logs.{TxnStands}
 use Rattle.mn_node.specs.Durable.{Durable, made}
 use Rattle.mn_node.specs.Effects.{Command, Effect, effect, pending_after, write_of}
 use Rattle.mn_node.specs.Inside.Loads.{Makes}
-use Rattle.mn_node.specs.Inside.Transacts.{IsOnly, ToldOut, Transacts}
+use Rattle.mn_node.specs.Inside.Transacts.{ToldOut, Transacts}
 use Rattle.mn_node.specs.Inside.Tries.{CommitsTo, IsPlain, PendsOut, Tries, durable}
 use Rattle.mn_node.specs.Seen.{answer, asked}
 use Rattle.mn_node.specs.Shown.{OpenShows, IsNamed, Pends, HasPending}
@@ -34,20 +34,17 @@ use Rattle.mn_node.specs.declared.open.Open.{Open}
 use Rattle.mn_node.specs.declared.open.Trouble.{Trouble}
 use Rattle.mn_node.specs.declared.open.Trouble.TheVariants.{File, Memory}
 use Rattle.mn_node.specs.declared.starting.StartErr.{StartErr}
-use Rattle.mn_node.proofs.Acts.{IsAnswered, only_told, wanted_memory}
-use Rattle.mn_node.proofs.Named.{AreNamed, schema_op_named, taken_named}
+use Rattle.mn_node.proofs.Acts.{only_told, wanted_memory}
+use Rattle.mn_node.proofs.Named.{keeps_names, taken_named}
 use Rattle.mn_node.proofs.Refusals.{fits_is}
-use Rattle.mn_node.proofs.TxnCommits.{are_named, do_ops_named}
-
-pub all_named : (tables : List Table) → AreNamed tables → AllByRecursion IsNamed tables
-all_named [] h = tt
-all_named (table ∷ tables) h = (h.0, all_named tables h.1)
+use Rattle.mn_node.proofs.TakenCommits.{each_schema_op, each_ops}
+use Rattle.mn_node.proofs.TxnSteps.{single_happens, put_free, make_happens, drop_happens}
 
 -- the tables that a log's commits make are called what tables can be
 makes_named : (items : List (List ℕ)) (base : Database) → Makes items base → AllByRecursion IsNamed base.tables
 makes_named items base made_of =
     subst (λ (d : Database). AllByRecursion IsNamed d.tables) (sym made_of.same)
-    (all_named (made made_of.commits).database.tables (taken_named made_of.commits made_of.taken))
+    (taken_named made_of.commits made_of.taken)
 
 pub result_named : (items : List (List ℕ)) (result : Result LiveTables StartErr) → IfOk result (λ live. Makes items (database live))
     → IfOk result (λ live. AllByRecursion IsNamed (database live).tables)
@@ -137,61 +134,39 @@ module _ {old : Open} {pending : List Txn} (pends : Pends old pending) where
       → holder (lock_of (change (write name item))) pending ≡ None
       → Steps (write_of base.version name item) (single (change (write name item)))
   put_steps name item table is fit free =
-      let call : Call = change (write name item) in
-      let behind : Outcome = record { answer = replied (reply call base.tables); state = record state { tables = after call base.tables } }
-      in
-      let none : single_refusal call (table_in name base.tables) pending ≡ None =
-      ap (λ (f : Option Table). single_refusal call f pending) is
-      ∙ ap (λ (b : Bool). if b then lock_refusal (holder (lock_of call) pending) else Some bad_record)
-      ((fits_is table.definition item).1 fit)
-      ∙ ap lock_refusal free in
-      record {
-        given = replied (reply call base.tables);
+      let call : Call = change (write name item) in record {
+        given = replied calls.done;
         orderly = tt;
-        comes = ap (λ (r : Option Refusal). unless_refused r state behind) none;
-        named = do_ops_named (write name item ∷ []) base.tables pends.named;
+        comes = single_happens base.tables pending call (Some table) is
+            (put_free base.tables pending name item table ((fits_is table.definition item).1 fit) free);
+        named = each_ops IsNamed keeps_names (write name item ∷ []) base.tables pends.named;
       }
 
   -- ---- tables that are made and taken away
 
-  none_is : (found : Option Table) → IsNone found → found ≡ None
-  none_is None h = refl
-  none_is (Some table) h = absurd (cc h)
-
   named_behind : (op : SchemaOperation) → IsLawful record { version = base.version + 1; schema_operations = op ∷ []; operations = [] } base
       → AllByRecursion IsNamed (do_schema_op op base.tables)
-  named_behind op lawful = all_named (do_schema_op op base.tables)
-      (schema_op_named op base.tables lawful.applies.0 (are_named base.tables pends.named))
+  named_behind op lawful = each_schema_op IsNamed keeps_names op base.tables lawful.applies.0 pends.named
 
   pub create_steps : (d : Definition) → IsLawful (create_commit d base) base
       → Steps (create_commit d base) (make (with_cookie (base.version + 1) d))
   create_steps d lawful =
       let one : Definition = with_cookie (base.version + 1) d in
-      let behind : Outcome = record { answer = ok; state = record state { tables = do_schema_op (create one) base.tables } } in
-      let some = lawful.applies.0.0.attributes.some in
-      record {
+      let some = lawful.applies.0.0.attributes.some in record {
         given = ok;
         orderly = omega (arith, some);
-        comes = ap (λ (f : Option Table). unless_there f state behind) (none_is (table_in one.name base.tables) lawful.applies.0.1);
+        comes = make_happens base.tables pending one lawful.applies.0.1;
         named = named_behind (create one) lawful;
       }
 
   pub delete_steps : (name : List ℕ) → IsLawful (delete_commit name base) base → holder (whole_table name) pending ≡ None
       → Steps (delete_commit name base) (drop name)
-  delete_steps name lawful free =
-      let behind : Outcome = record { answer = ok; state = record state { tables = do_schema_op (drop_table name) base.tables } } in
-      let none : drop_refusal name (table_in name base.tables) pending ≡ None =
-      refusal (table_in name base.tables) lawful.applies.0 in
-      record {
-        given = ok;
-        orderly = tt;
-        comes = ap (λ (r : Option Refusal). unless_refused r state behind) none;
-        named = named_behind (drop_table name) lawful;
-      }
-    where
-      refusal : (found : Option Table) → IsSome found → drop_refusal name found pending ≡ None
-      refusal None some = absurd (cc some)
-      refusal (Some table) some = ap lock_refusal free
+  delete_steps name lawful free = record {
+    given = ok;
+    orderly = tt;
+    comes = drop_happens base.tables pending name lawful.applies.0 free;
+    named = named_behind (drop_table name) lawful;
+  }
 
 -- ---- a command on transactions, as one that is tried
 

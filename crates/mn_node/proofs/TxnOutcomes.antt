@@ -1,10 +1,9 @@
 -- What the commands of transactions do, by what the pending transactions answer.
-use Rattle.std.proofs.Common.{◌≡◌, ℕ, true, if◌then◌else◌, List, [], ◌∷◌, Option, None, Some, is_some, refl, ap, ◌∙◌, sym}
-use Rattle.db_model.specs.Database.{Table}
+use Rattle.std.proofs.Common.{◌≡◌, ℕ, true, if◌then◌else◌, List, Option, None, Some, is_some, refl, ap}
 use Rattle.txn_core.specs.Calls.{Call, Reply, absent, all_keys}
-use Rattle.txn_core.specs.Machine.{State, Answer, replied, committed, ok, refused, barred, Outcome, unless_refused, happens, asked, committing, begin, ask, commit, abort}
-use Rattle.txn_core.specs.Pending.{Txn, named, begun, others, keeping, kept_call}
-use Rattle.txn_core.specs.Refusals.{Refusal, no_txn, begin_refusal, call_refusal, end_refusal}
+use Rattle.txn_core.specs.Machine.{State, Answer, replied, ok, refused, Outcome, unless_refused, happens, asked, begin, ask, abort}
+use Rattle.txn_core.specs.Pending.{Txn, named, begun, others}
+use Rattle.txn_core.specs.Refusals.{Refusal, no_txn, begin_refusal, call_refusal}
 use Rattle.mn_node.specs.Durable.{Durable}
 use Rattle.mn_node.specs.Effects as effects
 use Rattle.mn_node.specs.Effects.{Effect, effect, keeps, bars, refuses, unless_barred, reply_answer, reply_to, kept_if, begun_if, others_if, abort_effect, pending_after}

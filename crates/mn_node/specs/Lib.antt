@@ -5,4 +5,5 @@ pub mod Inside
 pub mod Machine
 pub mod Meaning
 pub mod Seen
+pub mod Serial
 pub mod Shown

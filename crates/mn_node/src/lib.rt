@@ -15,7 +15,7 @@ mod terms;
 mod transacting;
 
 pub use command::Command;
-pub use laws::directory_law;
+pub use laws::{directory_law, transactions_law};
 pub use node::{Node, State};
 pub use open::Open;
 pub use reply::Reply;

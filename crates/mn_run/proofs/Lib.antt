@@ -9,4 +9,5 @@ pub mod RunCrash
 pub mod RunFronts
 pub mod RunLoop
 pub mod RunServes
+pub mod Serial
 pub mod Stretches

@@ -9,4 +9,5 @@ pub mod Script
 pub mod Seen
 pub mod Sessions
 pub mod Statuses
+pub mod Transactions
 pub mod Words

@@ -5,6 +5,7 @@
 mod asks;
 mod commands;
 mod gathered;
+mod laws;
 mod lines;
 mod marks;
 mod outcome;
@@ -14,6 +15,7 @@ mod session;
 mod terms;
 mod words;
 
+pub use laws::transactions_law;
 pub use marks::Marks;
 pub use mn_node::directory_law;
 pub use mn_script::{command_laws, line_laws};

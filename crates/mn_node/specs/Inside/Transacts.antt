@@ -1,5 +1,5 @@
 -- What a command on pending transactions does, which goes to no disk.
-use Rattle.std.specs.Prelude.{◌≡◌, ℕ, IsTrue, false, List, Option, Some, None, unwrap_or, Result, Ok, Err, IfOk}
+use Rattle.std.specs.Prelude.{◌≡◌, ℕ, IsTrue, false, List, Option, None, unwrap_or, Result, Ok, Err}
 use Rattle.term_core.specs.declared.term.Term.{Term}
 use Rattle.txn_core.specs.Pending.{Txn}
 use Rattle.txn_core.specs.declared.error.TxnErr.{TxnErr}

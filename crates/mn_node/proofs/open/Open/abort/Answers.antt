@@ -1,4 +1,4 @@
-use Rattle.std.proofs.Common.{Some, Err, Ok, refl, sym, ap, subst, ◌∙◌}
+use Rattle.std.proofs.Common.{Err, Ok, refl, ap, subst}
 use Rattle.txn_core.specs.Machine as txns
 use Rattle.txn_core.specs.Refusals.{no_txn}
 use Rattle.txn_core.specs.Shown.{Answers, told_unit}

@@ -1,6 +1,6 @@
 use Rattle.std.proofs.Common.{Some, Ok, map, refl, ap}
 use Rattle.term_core.specs.View.{tree_of}
-use Rattle.txn_core.specs.Calls.{read, match_object, all_keys, found}
+use Rattle.txn_core.specs.Calls.{all_keys, found}
 use Rattle.txn_core.specs.Machine as txns
 use Rattle.mn_node.specs.Effects as machine
 use Rattle.mn_node.specs.Inside.Tries.{durable}
