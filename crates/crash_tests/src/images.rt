@@ -1,7 +1,8 @@
 //! What a crash may leave of a disk, and whether a run that starts on it finds the writes.
 
-use crate::plain::{Plain, shows_a_front};
-use crate::steps::{QUESTIONS, ran};
+use crate::plain::Plain;
+use crate::runs::ran;
+use crate::steps::QUESTIONS;
 use file_mem::{Choice, Effect, MemDisk, Tail, Taken};
 use file_trait::Disk;
 use std::alloc::{AllocError, Global};
@@ -20,6 +21,8 @@ pub enum Image {
     FirstAsZeros,
     /// All, but each append as other bytes.
     OtherBytes,
+    /// All, but of each append only the first so many bytes.
+    Short(u64),
     /// The appends, but no mark.
     AppendsAlone,
     /// The marks, but no append.
@@ -28,8 +31,9 @@ pub enum Image {
 
 const EVERYTHING: Image = Image::Front(ALL, ALL, ALL);
 
-/// What may be left of a run.
-pub const IMAGES: [Image; 11] = [
+/// What may be left of a run. The short appends are whole where they are single writes, and torn where they are
+/// transactions of several.
+pub const IMAGES: [Image; 12] = [
     Image::Front(0, 0, 0),
     EVERYTHING,
     Image::Front(ALL, 0, 0),
@@ -39,6 +43,7 @@ pub const IMAGES: [Image; 11] = [
     Image::Zeros,
     Image::FirstAsZeros,
     Image::OtherBytes,
+    Image::Short(65),
     Image::AppendsAlone,
     Image::MarksAlone,
 ];
@@ -75,6 +80,7 @@ fn taken(alloc: Global, image: Image) -> Result<Taken, AllocError> {
         Image::Zeros => Ok(each(alloc, true, Tail::Fill(0, ALL))),
         Image::FirstAsZeros => Ok(Taken::Each(vec![in alloc; filled(0)]?, WHOLE)),
         Image::OtherBytes => Ok(each(alloc, true, Tail::Fill(170, ALL))),
+        Image::Short(bytes) => Ok(each(alloc, true, Tail::Front(bytes))),
         Image::AppendsAlone => Ok(each(alloc, false, Tail::Front(ALL))),
         Image::MarksAlone => Ok(each(alloc, true, Tail::Front(0))),
     }
@@ -100,8 +106,8 @@ fn after_a_crash(alloc: Global, disk: &MemDisk, image: Image) -> Result<Vec<u8>,
     Ok(replies)
 }
 
-/// The first of these images, if any, on which a start finds no front of the writes that were begun, or one that lacks
-/// a durable write, or an answered one where nothing that is pending was lost.
+/// The first of these images, if any, on which a start finds no front of the commits that were begun, or one that lacks
+/// a durable commit, or an answered one where nothing that is pending was lost.
 pub fn wrong_image(
     alloc: Global,
     images: &[Image],
@@ -115,7 +121,7 @@ pub fn wrong_image(
             plain.durable
         };
         let replies = after_a_crash(alloc, disk, *image)?;
-        if !shows_a_front(alloc, &plain.writes, least, &replies)? {
+        if !plain.shows_a_front(alloc, least, &replies)? {
             return Ok(Some(*image));
         }
     }

@@ -1,5 +1,5 @@
-//! Tests of whole runs over a disk in memory that stops, or fails once, at each of its calls in turn. What the runs
-//! reply is compared with a plain list of writes that the tests keep.
+//! Tests of whole runs over a disk in memory: of one script while the disk stops, or fails once, at each of its calls
+//! in turn, and of scripts that a number makes. What the runs reply is compared with plain lists that the tests keep.
 #![tactic(auto)]
 
 #[cfg(test)]
@@ -7,9 +7,21 @@ mod faults;
 #[cfg(test)]
 mod images;
 #[cfg(test)]
+mod kinds;
+#[cfg(test)]
+mod lines;
+#[cfg(test)]
+mod locks;
+#[cfg(test)]
 mod plain;
 #[cfg(test)]
+mod refusals;
+#[cfg(test)]
 mod replies;
+#[cfg(test)]
+mod runs;
+#[cfg(test)]
+mod schedules;
 #[cfg(test)]
 mod steps;
 #[cfg(test)]

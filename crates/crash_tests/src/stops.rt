@@ -2,13 +2,14 @@
 
 use crate::images::{IMAGES, wrong_image};
 use crate::plain::Plain;
-use crate::steps::{STEPS, calls_of_a_run, ran};
+use crate::runs::{calls_of_a_run, ran};
+use crate::steps::STEPS;
 use file_mem::MemDisk;
 use file_trait::Disk;
 use mn_run::{Outcome, Status};
 use std::test::Fail;
 
-// How many of the writes since the last good start are durable by the last mark.
+// How many of the commits since the last good start are durable by the last mark.
 fn synced_by(outcome: &Outcome) -> Option<u64> {
     match outcome.marks.last() {
         Some(mark) => Some(mark.synced),
@@ -25,12 +26,13 @@ fn stopped_at_each_call(rt: HostRuntime) -> Result<(), Fail> {
         disk.stop_after(call);
         let (outcome, replies) = ran(rt.alloc(), &mut disk, &STEPS)?;
         let mut plain = Plain::new(rt.alloc());
-        assert!(rt;
-            plain.takes_all(rt.alloc(), &STEPS, &replies)?,
+        assert_eq!(rt;
+            plain.wrong_line(rt.alloc(), &STEPS, &replies)?,
+            None,
             "replies at {call}"
         );
         assert_eq!(rt; disk.faults() == 0, call == count, "faults at {call}");
-        plain.end(outcome.status == Status::Done)?;
+        plain.end(rt.alloc(), outcome.status == Status::Done)?;
         let synced = plain.durable.saturating_sub(plain.base) as u64;
         assert_eq!(rt; synced_by(&outcome), Some(synced), "mark at {call}");
         assert_eq!(rt;
