@@ -1,6 +1,7 @@
 //! What a node that is up is asked.
 
 use db_model::{DefErr, TableDef};
+use sqlite_items::Boxed;
 use term_core::{Atom, Term};
 
 #[derive(Drop)]
@@ -9,8 +10,8 @@ pub enum Command {
     Put(Atom, Term),
     /// Read the records of the table of this name with this key.
     Get(Atom, Term),
-    /// Make a table of this name, as its options were read.
-    CreateTable(Atom, Result<TableDef, DefErr>),
+    /// Make a table of this name, as its options were read. The definition is boxed, since each command would be as large.
+    CreateTable(Atom, Result<Boxed<TableDef>, DefErr>),
     /// Take the table of this name away, with its records.
     DeleteTable(Atom),
     /// The names of the tables.

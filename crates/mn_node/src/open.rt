@@ -33,7 +33,7 @@ use db_state::Live;
 use disk_logs::LogErr;
 use file_trait::{Disk, FileName};
 use schema_txn::{SchemaErr, create_table, delete_table};
-use sqlite_items::Items;
+use sqlite_items::{Boxed, Items};
 use std::alloc::{AllocError, Global};
 use term_core::{Atom, Term};
 use txn_core::Txns;
@@ -290,7 +290,7 @@ impl Open {
         alloc: Global,
         disk: &mut D,
         name: Atom,
-        read: Result<TableDef, DefErr>,
+        read: Result<Boxed<TableDef>, DefErr>,
     ) -> Result<Done, Trouble>
         requires log { IsTrue D.tells → IsLog (D.past disk.old) (handle self.old.log) }
         requires few { self.old.log.commits < 2 ^ 64 - 1 }
@@ -308,7 +308,7 @@ impl Open {
             Ok(def) => def,
             Err(error) => return undefined(error, name),
         };
-        match create_table(alloc, &self.tables, &def) {
+        match create_table(alloc, &self.tables, def.get()) {
             Ok(commit) => self.commit(alloc, disk, &commit, true),
             Err(error) => refused(error, name),
         }

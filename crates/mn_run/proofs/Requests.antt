@@ -1,5 +1,5 @@
 -- Requests, the events that come of them, and what lines and options are read as.
-use Rattle.std.proofs.Common.{◌≡◌, ℕ, ◌<◌, ◌^◌, Bool, true, false, IsTrue, List, [], ◌∷◌, ◌++◌, Some, Result, Ok, Err, refl, ap, subst, arith}
+use Rattle.std.proofs.Common.{◌≡◌, ◌⊎◌, ℕ, ◌<◌, ◌^◌, Bool, true, false, IsTrue, List, [], ◌∷◌, ◌++◌, Some, Result, Ok, Err, refl, sym, ap, subst, inl, inr, arith}
 use Rattle.std.specs.Prelude.{IfOk, IfErr}
 use Rattle.term_core.specs.Tree.{Tree}
 use Rattle.db_model.specs.Definitions.{Definition, IsDefinition}
@@ -7,6 +7,7 @@ use Rattle.db_model.specs.Options.{IsDefinedBy, IsRefusal}
 use Rattle.db_model.specs.View.{definition}
 use Rattle.db_model.specs.declared.definition.TableDef.{TableDef}
 use Rattle.db_model.specs.declared.error.DefErr.{DefErr}
+use Rattle.db_model.specs.declared.error.DefErr.TheVariants.{Memory}
 use Rattle.db_model.proofs.Defined.{defined_lawful}
 use Rattle.mn_node.specs.Effects.{create_table, IsAskable}
 use Rattle.mn_node.specs.Machine.{Event}
@@ -38,6 +39,11 @@ pub read_of : (name : List ℕ) (options : Tree) (read : Result TableDef DefErr)
     → IfErr read (λ error. IsRefusal name options error) → IsRead name options (read_as read)
 read_of name options (Ok def) defined refusal = defined
 read_of name options (Err error) defined refusal = refusal
+
+pub boxed_read : (name : List ℕ) (options : Tree) (read boxed : Result TableDef DefErr) → (boxed ≡ read) ⊎ (boxed ≡ Err Memory)
+    → IsRead name options (read_as read) → IsRead name options (read_as boxed)
+boxed_read name options read boxed (inl is) h = subst (λ r. IsRead name options (read_as r)) (sym is) h
+boxed_read name options read boxed (inr is) h = subst (λ r. IsRead name options (read_as r)) (sym is) tt
 
 pub read_askable : (name : List ℕ) (options : Tree) (read : Result Definition DefErr) → IsRead name options read
     → IsAskable (create_table name read)

@@ -1,15 +1,16 @@
 //! Lines as events of the machine.
 
-ghost use Rattle.std.specs.Prelude.{IfOk, OnErr};
+ghost use Rattle.std.specs.Prelude.{◌≡◌, ◌⊎◌, IfOk, OnErr, Err};
 ghost use Rattle.term_core.specs.View.{tree_of};
 ghost use Rattle.mn_script.specs.Commands as script;
 ghost use Rattle.mn_script.specs.Grammar.{HasArgument};
 ghost use Rattle.mn_run.specs.Commands.{request_of, IsAskedAs};
 ghost use Rattle.mn_run.specs.Seen.{event, IsAskableLine, IsReadAs};
 
-use db_model::parse_options;
+use db_model::{DefErr, TableDef, parse_options};
 use mn_node::Command;
 use mn_script::{LineErr, read_command};
+use sqlite_items::Boxed;
 use std::alloc::{AllocError, Global};
 use term_core::{Atom, Term};
 
@@ -76,5 +77,15 @@ fn creation(alloc: Global, name: Atom, options: &Term) -> Line
     ensures askable { IsAskableLine result }
 {
     let read = parse_options(alloc, &name, options);
-    Line::Do(Command::CreateTable(name, read))
+    Line::Do(Command::CreateTable(name, boxed(alloc, read)))
+}
+
+/// The same definition in a box, which takes memory.
+fn boxed(alloc: Global, read: Result<TableDef, DefErr>) -> Result<Boxed<TableDef>, DefErr>
+    ensures { (result ≡ read) ⊎ (result ≡ Err DefErr.Memory) }
+{
+    match Boxed::new(alloc, read?) {
+        Ok(def) => Ok(def),
+        Err(_) => Err(DefErr::Memory),
+    }
 }
