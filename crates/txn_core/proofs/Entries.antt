@@ -1,9 +1,12 @@
--- An entry put or changed in a map in order, seen through what its keys stand for.
-use Rattle.std.proofs.Common.{◌≡◌, Bool, true, false, cond, List, [], ◌∷◌, Option, Some, is_some, Ordering, Less, Equal, Greater, refl, sym, ap, ◌∙◌, inl, inr}
+-- An entry put into a map or a set in order, seen through what its keys stand for.
+use Rattle.std.proofs.Common.{◌≡◌, Bool, true, false, ◌||◌, cond, List, [], ◌∷◌, Option, Some, Ordering, Less, Equal, Greater, refl, sym}
+use Rattle.std.proofs.Common.{ap, ◌∙◌, inl, inr}
 use Rattle.std.specs.Ordering.{eq_by_cmp, match_ordering}
 use Rattle.std.specs.Cmp.{IsTotalOrder, tied_itself, Equal-is}
-use Rattle.std.specs.Map.{lookup, set_value}
+use Rattle.std.specs.Map.{lookup}
 use Rattle.std.specs.BTreeMap.{insert_entry}
+use Rattle.std.specs.BTreeSet.{insert_key}
+use Rattle.std.specs.List.{list_any}
 use Rattle.std.proofs.lemmas.Bool.{cases_Bool, false_from_ne_true}
 
 same_answer : {X : Type 0} (b : Bool) (v was : X) (rest : Option X)
@@ -55,24 +58,35 @@ module _ {K Q X : Type 0} (of : K → Q) (R : Q → Q → Ordering) (total : IsT
       let later = insert_entry (λ a b. R (of a) (of b)) es k v in
       inserted_at e es later k v asked (lookup-inserted es k v asked) (R (of k) (of e.0)) refl
 
--- ---- a value changed: of the keys that pass the one test, each passes the other one where it says so
+-- ---- a key put into a set in order
 
-apart_answers : {X : Type 0} (b c : Bool) (v was : X) (rest : Option X) → (b ≡ true → c ≡ false)
-    → cond c (Some was) (cond b (Some v) rest) ≡ cond b (Some v) (cond c (Some was) rest)
-apart_answers true true v was rest h = (let wrong = h refl in absurd (cc))
-apart_answers true false v was rest h = refl
-apart_answers false c v was rest h = refl
+or_twice : (a b : Bool) → (a || b) ≡ (a || (a || b))
+or_twice true b = refl
+or_twice false b = refl
 
-pub lookup-written : {K X : Type 0} (written asked : K → Bool) (b : Bool) (es : List (K × X)) (v : X)
-    → ((k : K) → written k ≡ true → asked k ≡ b) → ((k : K) → b ≡ true → asked k ≡ written k)
-    → is_some (lookup written es) ≡ true → lookup asked (set_value written es v) ≡ cond b (Some v) (lookup asked es)
-lookup-written written asked b [] v one other there = absurd (cc)
-lookup-written {X = X} written asked b (e ∷ es) v one other there =
-    elim (cases_Bool (written e.0)) [
-      | inl h ↦ simp (h, one e.0 h, same_answer b v e.1 (lookup asked es)) refl
-      | inr h ↦ (
-          let rest : is_some (lookup written es) ≡ true =
-          sym (ap (λ t. is_some {T = X} (cond t (Some e.1) (lookup written es))) h) ∙ there in
-          let ih = lookup-written written asked b es v one other rest in
-          simp (h, ih) (apart_answers b (asked e.0) v e.1 (lookup asked es) (λ k. other e.0 k ∙ h)))
-    ]
+or_past : (a b c : Bool) → (a || (b || c)) ≡ (b || (a || c))
+or_past true true c = refl
+or_past true false c = refl
+or_past false b c = refl
+
+module _ {K Q : Type 0} (of : K → Q) (R : Q → Q → Ordering) (exact : (x y : Q) → R x y ≡ Equal → x ≡ y) where
+  abbrev is_there : Q → List K → Bool
+  is_there asked ks = list_any (λ own. eq_by_cmp R asked (of own)) ks
+
+  put_at : (x k : K) (xs after : List K) (asked : Q)
+      → is_there asked after ≡ (eq_by_cmp R asked (of k) || is_there asked xs) → (o : Ordering) → R (of k) (of x) ≡ o
+      → is_there asked (match_ordering o (k ∷ x ∷ xs) (x ∷ xs) (x ∷ after))
+      ≡ (eq_by_cmp R asked (of k) || is_there asked (x ∷ xs))
+  put_at x k xs after asked ih Less h = refl
+  put_at x k xs after asked ih Equal h =
+      or_twice (eq_by_cmp R asked (of x)) (is_there asked xs)
+      ∙ ap (λ q. eq_by_cmp R asked q || is_there asked (x ∷ xs)) (sym (exact (of k) (of x) h))
+  put_at x k xs after asked ih Greater h =
+      ap (λ b. eq_by_cmp R asked (of x) || b) ih
+      ∙ or_past (eq_by_cmp R asked (of x)) (eq_by_cmp R asked (of k)) (is_there asked xs)
+
+  pub any-inserted : (ks : List K) (k : K) (asked : Q)
+      → is_there asked (insert_key (λ a b. R (of a) (of b)) ks k) ≡ (eq_by_cmp R asked (of k) || is_there asked ks)
+  any-inserted [] k asked = refl
+  any-inserted (x ∷ xs) k asked =
+      put_at x k xs (insert_key (λ a b. R (of a) (of b)) xs k) asked (any-inserted xs k asked) (R (of k) (of x)) refl

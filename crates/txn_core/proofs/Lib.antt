@@ -15,6 +15,7 @@ pub mod SerialRuns
 mod Entries
 mod Tables
 mod Taken
+mod OwnLocks
 mod Fitting
 mod Shown
 mod Begun

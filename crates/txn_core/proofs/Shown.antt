@@ -11,12 +11,11 @@ use Rattle.db_model.specs.View.{operation}
 use Rattle.txn_core.specs.Calls.{Call, change, read, match_object, all_keys, ops_of}
 use Rattle.txn_core.specs.Locks.{Lock, lock_of, conflict}
 use Rattle.txn_core.specs.Pending.{Kept, Txn, calls_of, is_named, named, others, holds, holder, begun, keeping}
-use Rattle.txn_core.specs.Held.{holds_lock}
 use Rattle.txn_core.specs.Requests.{change_of}
-use Rattle.txn_core.specs.Entries.{IsFresh, Keeps, IsAlike, first_holder}
+use Rattle.txn_core.specs.Entries.{holds_lock, IsFresh, Keeps, IsAlike, first_holder}
 use Rattle.txn_core.specs.Shown.{ShowsCalls, ShowsTxn, AreShown}
 use Rattle.txn_core.specs.declared.pending.Pending.{Pending}
-use Rattle.txn_core.proofs.Tables.{name_is}
+use Rattle.txn_core.proofs.NameFacts.{one_name}
 
 -- ---- the first holder
 
@@ -26,7 +25,7 @@ holder_shown lock [] [] h = refl
 holder_shown lock [] (txn ∷ pending) h = absurd h
 holder_shown lock (entry ∷ entries) [] h = absurd h
 holder_shown lock (entry ∷ entries) (txn ∷ pending) h =
-    ap₂ (λ n r. cond (holds_lock entry.1.locks lock) (Some n) r) h.0.name (holder_shown lock entries pending h.1)
+    ap₂ (λ n r. cond (holds_lock entry.1 lock) (Some n) r) h.0.name (holder_shown lock entries pending h.1)
     ∙ ap (λ b. cond b (Some txn.name) (holder lock pending)) (h.0.kept.locks lock)
 
 pub other_holder_shown : (name : List ℕ) (lock : Lock) (entries : List (List ℕ × Pending)) (pending : List Txn)
@@ -35,7 +34,7 @@ other_holder_shown name lock [] [] h = refl
 other_holder_shown name lock [] (txn ∷ pending) h = absurd h
 other_holder_shown name lock (entry ∷ entries) [] h = absurd h
 other_holder_shown name lock (entry ∷ entries) (txn ∷ pending) h =
-    ap (λ n. cond (not (same_name name n) && holds_lock entry.1.locks lock) (Some n) (first_holder (Some name) lock entries)) h.0.name
+    ap (λ n. cond (not (same_name name n) && holds_lock entry.1 lock) (Some n) (first_holder (Some name) lock entries)) h.0.name
     ∙ ap₂ (λ b r. cond (not (is_named name txn) && b) (Some txn.name) r) (h.0.kept.locks lock)
     (other_holder_shown name lock entries pending h.1)
     ∙ dropped (is_named name txn)
@@ -190,7 +189,7 @@ kept_shown name was now one (entry ∷ entries) (txn ∷ pending) distinct there
           shows_more entry.1 now one txn (subst (λ w. Keeps w now one.call) same keeps) h.0.kept in
           let first : ShowsTxn (entry.0, now) more = record { name = h.0.name; kept = calls } in
           let apart = IsDistinct-head same_name entry.0 (keys_of entries) distinct in
-          let still = none_kept name one entry.0 entries pending (name_is name entry.0 k) apart h.1 in
+          let still = none_kept name one entry.0 entries pending (one_name name entry.0 k) apart h.1 in
           let rest : AreShown entries (keeping name one pending) = subst (AreShown entries) (sym still) h.1 in
           subst (λ b. AreShown (split_at name now entry entries b) (keeping name one (txn ∷ pending))) (sym k)
           (subst (λ b. AreShown ((entry.0, now) ∷ entries) (cond b more txn ∷ keeping name one pending)) (sym k2) (first, rest)))
@@ -220,7 +219,7 @@ alike_shown name was now (entry ∷ entries) (txn ∷ pending) there alike h =
           let its : Some was ≡ Some entry.1 = found true k in
           let same : was ≡ entry.1 = cc in
           let calls : ShowsCalls now txn = record {
-            locks = λ asked. alike.locks asked ∙ ap (λ w. holds_lock w.locks asked) same ∙ h.0.kept.locks asked;
+            locks = λ asked. alike.locks asked ∙ ap (λ w. holds_lock w asked) same ∙ h.0.kept.locks asked;
             calls = alike.calls ∙ ap (λ w. w.calls) same ∙ h.0.kept.calls;
             writes = ap (λ ops. map operation ops) (alike.writes ∙ ap (λ w. w.writes) same) ∙ h.0.kept.writes;
           } in
@@ -256,7 +255,7 @@ others_shown name (entry ∷ entries) (txn ∷ pending) distinct h =
       | inl k ↦ (
           let k2 : is_named name txn ≡ true = ap (same_name name) (sym h.0.name) ∙ k in
           let apart = IsDistinct-head same_name entry.0 (keys_of entries) distinct in
-          let still = none_gone name entry.0 entries pending (name_is name entry.0 k) apart h.1 in
+          let still = none_gone name entry.0 entries pending (one_name name entry.0 k) apart h.1 in
           let rest : AreShown entries (others name pending) = subst (AreShown entries) (sym still) h.1 in
           subst (λ b. AreShown (cond b entries (entry ∷ gone)) (others name (txn ∷ pending))) (sym k)
           (subst (λ b. AreShown entries (cond (not b) (txn ∷ others name pending) (others name pending))) (sym k2) rest))

@@ -7,7 +7,7 @@ use Rattle.db_model.specs.View.{operation}
 use Rattle.txn_core.specs.Calls.{found, ops_of}
 use Rattle.txn_core.specs.Locks.{Lock}
 use Rattle.txn_core.specs.Pending.{Txn, calls_of, holds}
-use Rattle.txn_core.specs.Held.{holds_lock}
+use Rattle.txn_core.specs.Entries.{holds_lock}
 use Rattle.txn_core.specs.Machine.{Order, Answer, replied, refused, happens}
 use Rattle.txn_core.specs.Refusals.{Refusal, no_txn, txn_exists, too_many, no_table, bad_record, too_many_calls, locked}
 use Rattle.txn_core.specs.declared.error.TxnErr.{TxnErr}
@@ -17,9 +17,9 @@ use Rattle.txn_core.specs.declared.txns.Txns.{Txns}
 
 -- ---- the transactions
 
--- its tables of locks tell every conflict with a lock of the calls, it counts them, and it has what they write
+-- its ops and locks for reading tell every conflict with a lock of the calls, it counts them, and has what they write
 pub record ShowsCalls (own : Pending) (txn : Txn) : Type 0 where
-  pub locks : (lock : Lock) → holds_lock own.locks lock ≡ holds lock txn
+  pub locks : (lock : Lock) → holds_lock own lock ≡ holds lock txn
   pub calls : own.calls ≡ length txn.kept
   pub writes : map operation own.writes ≡ ops_of (calls_of txn.kept)
 

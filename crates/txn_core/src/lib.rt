@@ -3,10 +3,10 @@
 
 mod error;
 mod laws;
-mod locks;
 mod pending;
+mod read_locks;
 mod request;
-mod table_locks;
+mod table_reads;
 #[cfg(test)]
 mod tests;
 mod txns;

@@ -1,31 +1,33 @@
 //! One pending transaction.
 
-ghost use Rattle.std.specs.Prelude.{◌≡◌, ◌++◌, map, Option, IfOk, IfErr, IfSome, IsSome, OnOk, OnErr};
-ghost use Rattle.std.specs.Option.{option_map, option_copied, option_to_list};
+ghost use Rattle.std.specs.Prelude.{◌≡◌, map, Option, IfOk, IfErr, IsSome, OnOk, OnErr};
+ghost use Rattle.std.specs.Option.{option_map, option_copied};
 ghost use Rattle.term_core.specs.View.{tree_of};
 ghost use Rattle.db_model.specs.View.{operation};
 ghost use Rattle.txn_writes.specs.Seen.{seen, key_changed};
-ghost use Rattle.txn_core.specs.Held.{holds_lock};
+ghost use Rattle.txn_core.specs.Calls.{change};
 ghost use Rattle.txn_core.specs.Requests.{call_of, IsRead, Finds, IsKeyed};
-ghost use Rattle.txn_core.specs.Entries.{IsFresh, Keeps, IsAlike, HasFew};
+ghost use Rattle.txn_core.specs.Entries.{holds_lock, IsFresh, Takes, Keeps, Locks, IsAlike, HasFew};
 ghost use Rattle.txn_core.specs.declared.error.TxnErr.TheVariants.{Memory};
 
 use crate::error::TxnErr;
-use crate::locks::Locks;
+use crate::read_locks::ReadLocks;
 use crate::request::Request;
-use db_model::{Op, Ops};
+use db_model::Op;
 use ram_table::RamTable;
 use sqlite_items::Items;
 use std::alloc::{AllocError, Global};
-use term_core::{Atom, Term};
+use term_core::{Atom, Term, TermErr};
 use txn_writes::Writes;
 
 /// One pending transaction.
 #[derive(Drop)]
 pub struct Pending {
-    locks: Locks,
+    /// The locks for reading, but those on keys that were changed before.
+    reads: ReadLocks,
     /// How many calls it kept.
     calls: u32,
+    /// What it writes. The keys that this changes are locked for writing.
     writes: Writes,
 }
 
@@ -35,7 +37,7 @@ impl Pending {
         ensures { IsFresh result }
     {
         Pending {
-            locks: Locks::new(alloc),
+            reads: ReadLocks::new(alloc),
             calls: 0,
             writes: Writes::new(alloc),
         }
@@ -57,13 +59,13 @@ impl Pending {
 
     /// Whether a lock, on a key or on all of a table, conflicts with one of its own.
     pub fn blocks(&self, table: &Atom, key: Option<&Term>, writes: bool) -> bool
-        ensures { result ≡ holds_lock self.now.locks record {
+        ensures { result ≡ holds_lock self.now record {
           table = table.now;
           key = option_map tree_of (option_copied key.entry);
           writes = writes;
         } }
     {
-        self.locks.blocks(table, key, writes)
+        self.writes.changes(table, key) || writes && self.reads.bars(table, key)
     }
 
     /// What a call that reads finds in the table, through what the transaction wrote.
@@ -90,8 +92,7 @@ impl Pending {
         }
     }
 
-    /// Keeps the call: its op and its lock. Room for the lock is made first, so that none is taken where memory runs
-    /// out.
+    /// Keeps the call: its op and its lock.
     pub fn keep(&mut self, alloc: Global, table: &Atom, request: Request) -> Result<(), TxnErr>
         requires few { HasFew self.old }
         requires keyed { IsKeyed (call_of table.now request) }
@@ -99,25 +100,43 @@ impl Pending {
         ensures err { OnErr result (IsAlike self.old self.new) }
         ensures only_memory { IfErr result (λ error. error ≡ Memory) }
     {
-        let op = request.op(alloc, table)?;
-        let key = request.key();
-        self.locks.make_room(alloc, table, key)?;
-        push(alloc, &mut self.writes, op)?;
-        self.locks.take(table, key, request.writes());
+        self.take(alloc, table, request)?;
         self.calls += 1;
         Ok(())
     }
-}
 
-/// Writes the op behind the others, where there is one.
-fn push(alloc: Global, writes: &mut Writes, op: Option<Op>) -> Result<(), AllocError>
-    requires keyed { IfSome op (λ op. IsSome (key_changed (operation op))) }
-    ensures ok { OnOk result
-        (map operation writes.new ≡ map operation writes.old ++ option_to_list (option_map operation op)) }
-    ensures err { OnErr result (writes.new ≡ writes.old) }
-{
-    match op {
-        Some(op) => writes.push(alloc, op),
-        None => Ok(()),
+    /// Takes the call's op, or where it has none its lock.
+    fn take(&mut self, alloc: Global, table: &Atom, request: Request) -> Result<(), TxnErr>
+        requires keyed { IsKeyed (call_of table.now request) }
+        ensures ok { OnOk result (Takes self.old self.new (call_of table.now request.entry)) }
+        ensures err { OnErr result (IsAlike self.old self.new) }
+        ensures only_memory { IfErr result (λ error. error ≡ Memory) }
+    {
+        match request.op(alloc, table)? {
+            Some(op) => self.write(alloc, op)?,
+            None => self.lock(alloc, table, request.key())?,
+        }
+        Ok(())
+    }
+
+    /// Writes the op behind the others. Its key is locked for writing by that.
+    fn write(&mut self, alloc: Global, op: Op) -> Result<(), AllocError>
+        requires keyed { IsSome (key_changed (operation op)) }
+        ensures ok { OnOk result (Takes self.old self.new (change (operation op))) }
+        ensures err { OnErr result (IsAlike self.old self.new) }
+    {
+        self.writes.push(alloc, op)
+    }
+
+    /// Locks a key, or all of a table, for reading. A key that is locked for writing is locked enough.
+    fn lock(&mut self, alloc: Global, table: &Atom, key: Option<&Term>) -> Result<(), TermErr>
+        ensures ok { OnOk result
+            (Locks self.old self.new table.now (option_map tree_of (option_copied key.entry))) }
+        ensures err { OnErr result (IsAlike self.old self.new) }
+    {
+        if key.is_some() && self.writes.changes(table, key) {
+            return Ok(());
+        }
+        self.reads.take(alloc, table, key)
     }
 }

@@ -16,8 +16,8 @@ use Rattle.db_model.specs.declared.definition.Kind.{Kind}
 use Rattle.db_model.specs.declared.definition.Kind.TheVariants.{Set, OrderedSet, Bag}
 use Rattle.db_model.specs.declared.op.Op.{Op}
 use Rattle.ram_table.specs.Contents.{put_ops, IsInOrder}
-use Rattle.txn_writes.specs.Seen.{key_changed, is_on}
-use Rattle.txn_writes.specs.Places.{changes, ops_at, places_at, HasKey, AreWrites}
+use Rattle.txn_writes.specs.Seen.{key_changed, is_on, changes}
+use Rattle.txn_writes.specs.Places.{ops_at, places_at, HasKey, AreWrites}
 use Rattle.txn_writes.specs.declared.places.Places.{Places}
 use Rattle.txn_writes.specs.Replays.{with_found, ops_of, is_fresh, starts_fresh, HaveKey, ChangeKey}
 

@@ -18,8 +18,8 @@ use Rattle.db_model.specs.declared.definition.Kind.TheVariants.{Set, OrderedSet,
 use Rattle.db_model.specs.declared.op.Op.{Op}
 use Rattle.table_query.specs.Values.{is_match}
 use Rattle.ram_table.specs.Contents.{TableRecords, contents, put_ops, IsInOrder}
-use Rattle.txn_writes.specs.Seen.{key_changed, is_on, seen, keys, keys_behind}
-use Rattle.txn_writes.specs.Places.{changes, places_at, places_in, table_there, is_same_key, HasKey, AreWrites, ops_at}
+use Rattle.txn_writes.specs.Seen.{key_changed, is_on, seen, keys, keys_behind, changes}
+use Rattle.txn_writes.specs.Places.{places_at, places_in, table_there, is_same_key, HasKey, AreWrites, ops_at}
 use Rattle.txn_writes.specs.Walks.{is_above, rows_above, IsNext, live_keys, own_keys, all_keys, are_some}
 use Rattle.txn_writes.specs.declared.key_places.KeyPlaces.{KeyPlaces}
 use Rattle.txn_writes.specs.declared.places.Places.{Places}

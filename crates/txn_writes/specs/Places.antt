@@ -1,16 +1,16 @@
 -- Where the ops on each key of each table stand.
-use Rattle.std.specs.Prelude.{◌≡◌, ℕ, Bool, ◌&&◌, if◌then◌else◌, List, [], ◌∷◌, ◌++◌, filter, map, Option, None}
-use Rattle.std.specs.Prelude.{Some, IsSome, unwrap_or}
+use Rattle.std.specs.Prelude.{◌≡◌, ℕ, Bool, ◌&&◌, ◌||◌, if◌then◌else◌, List, [], ◌∷◌, ◌++◌, filter, map, Option, None}
+use Rattle.std.specs.Prelude.{Some, is_some, IsSome, unwrap_or}
 use Rattle.std.specs.List.{AllByRecursion, slice_get}
 use Rattle.std.specs.Map.{lookup}
 use Rattle.term_core.specs.Tree.{Tree}
 use Rattle.term_core.specs.Order.{same_tree}
 use Rattle.term_core.specs.View.{tree_of}
 use Rattle.term_core.specs.declared.term.Term.{Term}
-use Rattle.db_model.specs.Database.{is_key, same_name}
+use Rattle.db_model.specs.Database.{same_name}
 use Rattle.db_model.specs.View.{operation}
 use Rattle.db_model.specs.declared.op.Op.{Op}
-use Rattle.txn_writes.specs.Seen.{key_changed, is_on}
+use Rattle.txn_writes.specs.Seen.{key_changed, is_on, changes, is_changed}
 use Rattle.txn_writes.specs.declared.key_places.KeyPlaces.{KeyPlaces}
 use Rattle.txn_writes.specs.declared.places.Places.{Places}
 
@@ -44,25 +44,25 @@ places_in key (Some own) = key_places key own
 abbrev pub places_at : List ℕ → Tree → Places → List ℕ
 places_at name key places = places_in key (table_there name places)
 
-abbrev pub AreAlike : Places → Places → Type 0
-AreAlike old new = (name : List ℕ) (key : Tree) → places_at name key new ≡ places_at name key old
+pub record AreAlike (old new : Places) : Type 0 where
+  pub places : (name : List ℕ) (key : Tree) → places_at name key new ≡ places_at name key old
+  pub tables : (name : List ℕ) → is_some (table_there name new) ≡ is_some (table_there name old)
 
-abbrev pub IsNoted : Places → Places → List ℕ → Tree → ℕ → Type 0
-IsNoted old new table key place = (name : List ℕ) (asked : Tree)
-    → places_at name asked new
-    ≡ (if same_name name table && same_tree key asked then places_at name asked old ++ place ∷ []
-    else places_at name asked old)
+-- the place is the last one of that key of that table, which is there now; all else is as it was
+pub record IsNoted (old new : Places) (table : List ℕ) (key : Tree) (place : ℕ) : Type 0 where
+  pub places : (name : List ℕ) (asked : Tree) → places_at name asked new
+      ≡ (if same_name name table && same_tree key asked then places_at name asked old ++ place ∷ []
+      else places_at name asked old)
+  pub tables : (name : List ℕ) → is_some (table_there name new)
+      ≡ (same_name name table || is_some (table_there name old))
 
 -- ---- ops and their places
 
--- the op changes the records of this key in the table of this name
-abbrev pub changes : List ℕ → Tree → Op → Bool
-changes name key op = is_on name (operation op) && is_key key (key_changed (operation op))
-
-abbrev pub IsOpNoted : Places → Places → Op → ℕ → Type 0
-IsOpNoted old new op place = (name : List ℕ) (key : Tree)
-    → places_at name key new
-    ≡ (if changes name key op then places_at name key old ++ place ∷ [] else places_at name key old)
+pub record IsOpNoted (old new : Places) (op : Op) (place : ℕ) : Type 0 where
+  pub places : (name : List ℕ) (key : Tree) → places_at name key new
+      ≡ (if changes name key op then places_at name key old ++ place ∷ [] else places_at name key old)
+  pub tables : (name : List ℕ) → is_some (table_there name new)
+      ≡ (is_on name (operation op) || is_some (table_there name old))
 
 -- the ops that stand at the places
 abbrev pub ops_at : List Op → List ℕ → List (Option Op)
@@ -76,7 +76,8 @@ ArePlaces ops places = (name : List ℕ) (key : Tree)
 abbrev pub HasKey : Op → Type 0
 HasKey op = IsSome (key_changed (operation op))
 
--- each op changes one key, and the places are where they stand
+-- each op changes one key, the places are where they stand, and the tables those that they are on
 pub record AreWrites (ops : List Op) (places : Places) : Type 0 where
   pub keyed : AllByRecursion HasKey ops
   pub placed : ArePlaces ops places
+  pub tables : (name : List ℕ) → is_some (table_there name places) ≡ is_changed name None ops

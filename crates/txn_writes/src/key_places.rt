@@ -1,10 +1,10 @@
 //! Places by key.
 
-ghost use Rattle.std.specs.Prelude.{◌≡◌, [], true, Some, None, is_some, OnOk, OnErr};
+ghost use Rattle.std.specs.Prelude.{◌≡◌, [], Some, None, OnOk, OnErr};
 ghost use Rattle.std.specs.Option.{option_map, option_copied};
 ghost use Rattle.term_core.specs.Tree.{Tree};
 ghost use Rattle.term_core.specs.View.{tree_of};
-ghost use Rattle.txn_writes.specs.Places.{places_there, key_places, AreKeysAlike, IsKeyNoted};
+ghost use Rattle.txn_writes.specs.Places.{key_places, AreKeysAlike, IsKeyNoted};
 ghost use Rattle.txn_writes.specs.Walks.{IsNext, IsOneOf, own_keys};
 
 use crate::copies::copied_term;
@@ -76,27 +76,12 @@ impl KeyPlaces {
         }
     }
 
-    /// Makes room for the places of a key.
-    fn open(&mut self, alloc: Global, key: &Term) -> Result<(), AllocError>
-        ensures open { OnOk result (is_some (places_there (tree_of key.now) self.new) ≡ true) }
-        ensures alike { AreKeysAlike self.old self.new }
-    {
-        if !self.keys.contains_key(key) {
-            let key = copied_term(alloc, key)?;
-            self.keys.insert(key, Items::new(alloc))?;
-        }
-        Ok(())
-    }
-
-    /// Adds a place of the key.
+    /// Adds a place of the key, which is looked up once.
     pub fn push(&mut self, alloc: Global, key: &Term, place: usize) -> Result<(), AllocError>
         ensures ok { OnOk result (IsKeyNoted self.old self.new (tree_of key.now) place) }
         ensures err { OnErr result (AreKeysAlike self.old self.new) }
     {
-        self.open(alloc, key)?;
-        match self.keys.get_mut(key) {
-            Some(places) => places.push(place),
-            None => Ok(()),
-        }
+        let entry = self.keys.entry(copied_term(alloc, key)?)?;
+        entry.or_insert(Items::new(alloc)).push(place)
     }
 }

@@ -1,6 +1,6 @@
 //! Places by table and key.
 
-ghost use Rattle.std.specs.Prelude.{◌≡◌, ℕ, List, [], true, is_some, OnOk, OnErr};
+ghost use Rattle.std.specs.Prelude.{◌≡◌, ℕ, List, [], false, is_some, OnOk, OnErr};
 ghost use Rattle.std.specs.Option.{option_map, option_copied};
 ghost use Rattle.term_core.specs.Tree.{Tree};
 ghost use Rattle.term_core.specs.View.{tree_of};
@@ -24,7 +24,8 @@ pub struct Places {
 
 impl Places {
     pub fn new(alloc: Global) -> Places
-        ensures { (name : List ℕ) (key : Tree) → places_at name key result ≡ [] }
+        ensures places { (name : List ℕ) (key : Tree) → places_at name key result ≡ [] }
+        ensures tables { (name : List ℕ) → is_some (table_there name result) ≡ false }
     {
         Places {
             tables: BTreeMap::new(alloc),
@@ -48,18 +49,6 @@ impl Places {
         }
     }
 
-    /// Makes room for the places of a table.
-    fn open(&mut self, alloc: Global, name: &Atom) -> Result<(), AllocError>
-        ensures open { OnOk result (is_some (table_there name.now self.new) ≡ true) }
-        ensures alike { AreAlike self.old self.new }
-    {
-        if !self.tables.contains_key(name) {
-            let name = copied_atom(alloc, name)?;
-            self.tables.insert(name, KeyPlaces::new(alloc))?;
-        }
-        Ok(())
-    }
-
     /// Adds a place of the table's key.
     fn push(
         &mut self,
@@ -71,11 +60,28 @@ impl Places {
         ensures ok { OnOk result (IsNoted self.old self.new name.now (tree_of key.now) place) }
         ensures err { OnErr result (AreAlike self.old self.new) }
     {
-        self.open(alloc, name)?;
         match self.tables.get_mut(name) {
             Some(places) => places.push(alloc, key, place),
-            None => Ok(()),
+            None => self.begin(alloc, name, key, place),
         }
+    }
+
+    /// Adds a table with the first place of the key.
+    fn begin(
+        &mut self,
+        alloc: Global,
+        name: &Atom,
+        key: &Term,
+        place: usize,
+    ) -> Result<(), AllocError>
+        requires absent { is_some (table_there name.now self.old) ≡ false }
+        ensures ok { OnOk result (IsNoted self.old self.new name.now (tree_of key.now) place) }
+        ensures err { OnErr result (AreAlike self.old self.new) }
+    {
+        let mut places = KeyPlaces::new(alloc);
+        places.push(alloc, key, place)?;
+        self.tables.insert(copied_atom(alloc, name)?, places)?;
+        Ok(())
     }
 
     /// Adds the place of an op.

@@ -5,12 +5,13 @@ ghost use Rattle.std.specs.List.{slice_get};
 ghost use Rattle.std.specs.Prelude.{◌<◌, List, length, IfSome};
 ghost use Rattle.db_model.specs.declared.op.Op.{Op};
 ghost use Rattle.txn_writes.specs.Places.{HasKey, IsOpNoted, AreAlike};
-ghost use Rattle.std.specs.Prelude.{map, filter, IfOk};
+ghost use Rattle.std.specs.Prelude.{map, filter, Some, None, IfOk};
+ghost use Rattle.std.specs.Option.{option_map, option_copied};
 ghost use Rattle.term_core.specs.View.{tree_of};
 ghost use Rattle.db_model.specs.Database.{records_of};
 ghost use Rattle.db_model.specs.View.{operation};
 ghost use Rattle.table_query.specs.Values.{is_match};
-ghost use Rattle.txn_writes.specs.Seen.{key_changed, seen, keys};
+ghost use Rattle.txn_writes.specs.Seen.{key_changed, is_changed, seen, keys};
 ghost use Rattle.txn_writes.specs.Walks.{are_some};
 
 use crate::copies::copied_term;
@@ -75,6 +76,30 @@ impl Writes {
             remove_last(&mut self.ops);
         }
         noted
+    }
+
+    /// Whether an op changes records of the table of this name: those of the key, or any where none is given.
+    pub fn changes(&self, name: &Atom, key: Option<&Term>) -> bool
+        ensures { result ≡ is_changed name.now (option_map tree_of (option_copied key.entry)) self.now }
+    {
+        match key {
+            Some(key) => self.changes_key(name, key),
+            None => self.changes_table(name),
+        }
+    }
+
+    /// Whether an op changes records of the key in the table of this name.
+    fn changes_key(&self, name: &Atom, key: &Term) -> bool
+        ensures { result ≡ is_changed name.now (Some (tree_of key.now)) self.now }
+    {
+        !self.places.at(name, key).is_empty()
+    }
+
+    /// Whether an op changes records of the table of this name.
+    fn changes_table(&self, name: &Atom) -> bool
+        ensures { result ≡ is_changed name.now None self.now }
+    {
+        self.places.of_table(name).is_some()
     }
 
     /// The records of the key in the table of this name, as the transaction sees them.
