@@ -131,7 +131,7 @@ not_opened r t e f was closed_now set all more file is same failed wanted marked
 pub file_of_draft : (log : Handle) → IsTrue log.draft → file_of log ≡ draft_name log.name
 file_of_draft log is = ap (λ d. if d then draft_name log.name else log.name) is
 
-renamed : (past : Past) (from to : List ℕ) → from ≢ to → IsMoved from to past (did (to_dir (rename from to)) past)
+pub renamed : (past : Past) (from to : List ℕ) → from ≢ to → IsMoved from to past (did (to_dir (rename from to)) past)
 renamed past from to apart = (
   reads_rename past from to to ∙ ap (λ b. if b then reads past from else if same_name from to then None else reads past to)
       (same_name_refl to),

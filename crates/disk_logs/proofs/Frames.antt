@@ -10,7 +10,7 @@ use Rattle.disk_logs.proofs.Sound.{spared_sound}
 use Rattle.disk_logs.proofs.Standing.{spared_stands, sure_spared, grew_same}
 
 -- what stays where one thing done spares the name stays at each moment
-spared_kept : (N : List ℕ → Type 0) (P : Past → Type 0) (old new : Past) (name : List ℕ)
+pub spared_kept : (N : List ℕ → Type 0) (P : Past → Type 0) (old new : Past) (name : List ℕ)
     → ((past : Past) (op : DiskOp) → Spares op name → P past → P (did op past)) → (N name → ⊥)
     → Touches N old new → P old → Moments P old new
 spared_kept N P old new name keeps not = kept N P old new (λ op past concerns h. keeps past op (concerns_spares N op name not concerns) h)

@@ -23,7 +23,7 @@ use Rattle.disk_logs.proofs.Sound.{stands_sound}
 file_name : (log : Handle) → log.draft ≡ false → file_of log ≡ log.name
 file_name log is = ap (λ d. if d then draft_name log.name else log.name) is
 
-at_name : (at : List ℕ) (log : Handle) → at ≡ file_of log → log.draft ≡ false → at ≡ log.name
+pub at_name : (at : List ℕ) (log : Handle) → at ≡ file_of log → log.draft ≡ false → at ≡ log.name
 at_name at log same is = same ∙ file_name log is
 
 -- its mark, where the code has asked for it

@@ -1,5 +1,6 @@
 pub mod Acts
 pub mod Appends
+pub mod Both
 pub mod CallerLemmas
 pub mod Calls
 pub mod Drafts
@@ -8,7 +9,10 @@ pub mod Frames
 pub mod Handles
 pub mod Publishing
 pub mod ReadLemmas
+pub mod Removing
+pub mod Renaming
 pub mod Renewing
+pub mod Resting
 pub mod Runs
 pub mod Sound
 pub mod Standing

@@ -2,3 +2,4 @@ pub mod Calls
 pub mod Crash
 pub mod Errors
 pub mod Logs
+pub mod Rests

@@ -1,11 +1,12 @@
 //! The laws of logs.
 
 ghost use Rattle.std.specs.Prelude.{◌≡◌, ◌≢◌, ◌≤◌, ◌⊎◌, ◌++◌, ℕ, Bool, true, false, List, [], length, Option, None, Some};
-ghost use Rattle.file_trait.specs.DiskModel.{Past, handed, reads, IsSettled};
+ghost use Rattle.file_trait.specs.DiskModel.{Past, handed, reads, Crashes, IsSettled};
 ghost use Rattle.file_trait.specs.Moments.{Moments};
 ghost use Rattle.file_trait.specs.Touched.{Touches};
 ghost use Rattle.log_items.specs.Items.{log_bytes, AreContents};
-ghost use Rattle.disk_logs.specs.Crash.{LogStands, DraftStands, IsSound, LogLeaves};
+ghost use Rattle.disk_logs.specs.Crash.{LogStands, DraftStands, IsSound, LogLeaves, OldOrWhole};
+ghost use Rattle.disk_logs.specs.Rests.{FileHas, Rests, IsRenamed, UnderOne};
 
 /// What a crash leaves of a log that stands.
 #[tactic(none)]
@@ -42,4 +43,46 @@ pub fn sound_law()
     // A closed log that is sound stands with all its items, where no crash leaves the name for another file.
     ensures trusted { (past : Past) (name : List ℕ) (items : List (List ℕ)) → IsSound past name → IsSettled past name → AreContents items → reads past name ≡ Some (log_bytes true items)
         → LogStands past name true items (length items) }
+{}
+
+/// What rests: no file, or a closed log with all its items, whatever a crash leaves.
+#[tactic(none)]
+pub fn rests_law()
+    ensures leaves { (past : Past) (name : List ℕ) (file : Option (List (List ℕ))) → Rests past name file
+        → Crashes (λ image. FileHas file (image name)) past }
+    ensures sound { (past : Past) (name : List ℕ) (file : Option (List (List ℕ))) → Rests past name file
+        → IsSound past name }
+
+    // It does so at each moment while another name is touched, and where none is.
+    ensures kept { (other name : List ℕ) (file : Option (List (List ℕ))) (old new : Past) → other ≢ name
+        → Touches (λ n. n ≡ other) old new → Rests old name file → Moments (λ past. Rests past name file) old new }
+    ensures untouched { (name : List ℕ) (file : Option (List (List ℕ))) (old new : Past)
+        → Touches (λ n. ⊥) old new → Rests old name file → Rests new name file }
+
+    // Where a crash leaves a name no other file, no file rests, and so does a closed log that is sound.
+    ensures absent { (past : Past) (name : List ℕ) → IsSettled past name → reads past name ≡ None
+        → Rests past name None }
+    ensures trusted { (past : Past) (name : List ℕ) (items : List (List ℕ)) → IsSound past name → IsSettled past name
+        → AreContents items → reads past name ≡ Some (log_bytes true items) → Rests past name (Some items) }
+
+    // While a whole draft is published in its place a crash leaves what rested there, or the new file.
+    ensures replaced { (name : List ℕ) (file : Option (List (List ℕ))) (items : List (List ℕ)) (old new : Past)
+        → AreContents items → Rests old name file → Moments (OldOrWhole old name (log_bytes true items)) old new
+        → Moments (Crashes (λ image. FileHas file (image name) ⊎ FileHas (Some items) (image name))) old new }
+{}
+
+/// A closed log that got another name, until the directory is synced.
+#[tactic(none)]
+pub fn rename_law()
+    ensures leaves { (past : Past) (from to : List ℕ) (items : List (List ℕ)) → IsRenamed past from to items
+        → Crashes (UnderOne from to items) past }
+    ensures sound { (past : Past) (from to : List ℕ) (items : List (List ℕ)) → IsRenamed past from to items
+        → IsSound past from × IsSound past to }
+    ensures kept { (other from to : List ℕ) (items : List (List ℕ)) (old new : Past) → other ≢ from → other ≢ to
+        → Touches (λ n. n ≡ other) old new → IsRenamed old from to items
+        → Moments (λ past. IsRenamed past from to items) old new }
+
+    // Once a crash leaves it no other name it rests.
+    ensures settled { (past : Past) (from to : List ℕ) (items : List (List ℕ)) → IsRenamed past from to items
+        → IsSettled past to → Rests past to (Some items) }
 {}

@@ -1,7 +1,7 @@
 //! A log over a disk.
 
-ghost use Rattle.std.specs.Prelude.{◌≡◌, ◌⊎◌, ℕ, ◌≤◌, ◌&&◌, Bool, true, false, not, List, [], ◌∷◌, ◌++◌, ◌+◌, ◌<◌, ◌^◌, ◌↔◌, length, take, Some, Ok, IsTrue, IsOk, IfOk, IfErr, OnOk, OnErr, IsErrOf};
-ghost use Rattle.file_trait.specs.DiskModel.{reads, IsSettled};
+ghost use Rattle.std.specs.Prelude.{◌≡◌, ◌≢◌, ◌⊎◌, ℕ, ◌≤◌, ◌&&◌, Bool, true, false, not, List, [], ◌∷◌, ◌++◌, ◌+◌, ◌<◌, ◌^◌, ◌↔◌, length, take, None, Some, Ok, IsTrue, IsOk, IfOk, IfErr, OnOk, OnErr, IsErrOf};
+ghost use Rattle.file_trait.specs.DiskModel.{reads, Crashes, IsSettled};
 ghost use Rattle.file_trait.specs.Calls.{IsThere, IsAbsent, Has, IsDurable, IsDirDurable};
 ghost use Rattle.file_trait.specs.Moments.{Moments};
 ghost use Rattle.file_trait.specs.Name.{IsName};
@@ -10,6 +10,7 @@ ghost use Rattle.disk_logs.specs.Calls.{LogCalls};
 ghost use Rattle.disk_logs.specs.Crash.{Stands, DraftStands, IsSound, LogLeaves, IsSafe, OldOrWhole, OldOrPublished, OldOrItems};
 ghost use Rattle.disk_logs.specs.Errors.{OnlyFile, OnlyFileOrMemory, LogCause};
 ghost use Rattle.disk_logs.specs.Logs.{draft_name as name_of_draft, file_of, with_mark, opened, IsLog, AreItems, HasAppended, HasMarked, SetsMark, mark_bytes as bytes_of_mark, IsKept, IsMoved, HasPart};
+ghost use Rattle.disk_logs.specs.Rests.{Rests, Cleared, IsRenamed, UnderOne};
 ghost use Rattle.log_items.specs.Items.{wire, log_bytes, AreContents, HasItems};
 
 use crate::error::{told, wrote};
@@ -40,8 +41,8 @@ impl Model for Log {
 }
 
 impl Log {
-    /// Makes a draft of a log with a first item, and its mark says closed. An older draft of the name is removed. It is `TooLong`
-    /// where the item has more than 2^28 bytes.
+    /// Makes a draft of a log with a first item, and its mark says closed. An older draft of the name is removed. It is
+    /// `TooLong` where the item has more than 2^28 bytes.
     pub fn draft<D: Disk>(
         alloc: Global,
         disk: &mut D,
@@ -84,8 +85,8 @@ impl Log {
         // Where memory was wanting nothing was done but that the draft was made durable.
         ensures wanted { IsTrue D.tells → IsErrOf result LogErr.Memory → Touches (λ n. ⊥) (D.past disk.old) (D.past disk.new) }
 
-        // At Ok all items of the draft are durable under the name, and so is its mark. At each moment a crash leaves under it what it
-        // could leave before, or the whole draft.
+        // At Ok all items of the draft are durable under the name, and so is its mark. At each moment a crash leaves
+        // under it what it could leave before, or the whole draft.
         ensures stands { (items : List (List ℕ)) → IsTrue D.tells → AreContents items → DraftStands (D.past disk.old) (name_of_draft self.old.name) (log_bytes self.old.closed items)
             → OnOk result (Stands (D.past disk.new) self.new items (length items)) }
         ensures durable { (whole : List ℕ) → IsTrue D.tells → DraftStands (D.past disk.old) (name_of_draft self.old.name) whole → OnOk result (IsDurable (D.past disk.new) self.old.name) }
@@ -111,8 +112,9 @@ impl Log {
         Ok(())
     }
 
-    /// Puts whole items, one behind the other as `put_item` makes them, behind those of the file. A log that is published and says
-    /// closed is opened first: marked open and synced, so that no crash leaves a closed mark beside what is appended.
+    /// Puts whole items, one behind the other as `put_item` makes them, behind those of the file. A log that is
+    /// published and says closed is opened first: marked open and synced, so that no crash leaves a closed mark beside
+    /// what is appended.
     pub fn append<D: Disk>(&mut self, disk: &mut D, items: &[u8]) -> Result<(), LogErr>
         requires log { IsTrue D.tells → IsLog (D.past disk.old) self.old }
         requires items { AreItems items.now }
@@ -121,13 +123,15 @@ impl Log {
         ensures appended { (all more : List (List ℕ)) → IsTrue D.tells → items.now ≡ wire more → reads (D.past disk.old) (file_of self.old) ≡ Some (log_bytes self.old.closed all)
             → HasAppended result self.new.closed (opened self.old).closed all more (reads (D.past disk.new) (file_of self.old)) }
 
-        // At Ok the items stand behind the old ones, and as many as before are synced. Where memory was wanting all is as before.
+        // At Ok the items stand behind the old ones, and as many as before are synced. Where memory was wanting all is
+        // as before.
         ensures stands { (all more : List (List ℕ)) (synced : ℕ) → IsTrue D.tells → AreContents more → items.now ≡ wire more
             → Stands (D.past disk.old) self.old all synced → OnOk result (Stands (D.past disk.new) self.new (all ++ more) synced) }
         ensures kept { (all : List (List ℕ)) (synced : ℕ) → IsTrue D.tells → Stands (D.past disk.old) self.old all synced
             → IsErrOf result LogErr.Memory → Stands (D.past disk.new) self.new all synced }
 
-        // At each moment a crash leaves the first ones of the old items and the new, and at least those that were synced.
+        // At each moment a crash leaves the first ones of the old items and the new, and at least those that were
+        // synced.
         ensures any_moment { (all more : List (List ℕ)) (synced : ℕ) → IsTrue D.tells → AreContents more → items.now ≡ wire more
             → Stands (D.past disk.old) self.old all synced → Moments (LogLeaves self.old.name (all ++ more) synced) (D.past disk.old) (D.past disk.new) }
         // Where memory was wanting it leaves only old ones.
@@ -148,10 +152,12 @@ impl Log {
         told(self.file, disk.append(self.file, items))
     }
 
-    /// Makes all that was appended durable. A published log that says closed is durable already, and then nothing is done.
+    /// Makes all that was appended durable. A published log that says closed is durable already, and then nothing is
+    /// done.
     pub fn sync<D: Disk>(&mut self, disk: &mut D) -> Result<(), LogErr>
         requires { IsTrue D.tells → IsThere (D.past disk.old) (file_of self.old) }
         ensures log { self.new ≡ self.old }
+        ensures nothing { self.old.closed ≡ true → self.old.draft ≡ false → (result ≡ Ok tt) × (disk.new ≡ disk.old) }
         ensures same { IsTrue D.tells → (other : List ℕ) → reads (D.past disk.new) other ≡ reads (D.past disk.old) other }
         ensures stands { (items : List (List ℕ)) (synced : ℕ) → IsTrue D.tells → Stands (D.past disk.old) self.old items synced
             → OnOk result (Stands (D.past disk.new) self.new items (length items)) }
@@ -170,8 +176,8 @@ impl Log {
         told(self.file, disk.sync(self.file))
     }
 
-    /// Closes the log where its mark does not say so: it is made durable, marked closed, and made durable again, so that a closed
-    /// mark stands over durable items alone. Where it says closed this cannot fail, and nothing is done.
+    /// Closes the log where its mark does not say so: it is made durable, marked closed, and made durable again, so
+    /// that a closed mark stands over durable items alone. Where it says closed this cannot fail, and nothing is done.
     pub fn close<D: Disk>(&mut self, disk: &mut D) -> Result<(), LogErr>
         requires { IsTrue D.tells → IsLog (D.past disk.old) self.old }
         ensures log { OnOk result (self.new ≡ with_mark true self.old) }
@@ -202,9 +208,47 @@ impl Log {
         self.set_mark(disk, true)
     }
 
-    /// The log whose file was read so. A file whose mark says closed is trusted as it is: this cannot fail, and nothing is done. One
-    /// whose mark says open is renewed: its whole items are written into a draft under a closed head, which is published. No earlier
-    /// sync of the old file is trusted, and nothing of it is changed.
+    /// Gives a published log another name. An earlier file of that name is gone. Until the directory is synced a crash
+    /// may leave the log its old name.
+    pub fn rename<D: Disk>(&mut self, disk: &mut D, name: FileName) -> Result<(), LogErr>
+        requires published { self.old.draft ≡ false }
+        requires other { self.old.name ≢ name }
+        requires there { IsTrue D.tells → IsThere (D.past disk.old) self.old.name }
+        ensures log { OnOk result (self.new ≡ record { name = name; draft = false; closed = self.old.closed }) }
+        ensures err { OnErr result (self.new ≡ self.old) }
+
+        ensures moved { IsTrue D.tells → OnOk result (IsMoved self.old.name name (D.past disk.old) (D.past disk.new)) }
+
+        // Where memory was wanting nothing was done.
+        ensures wanted { IsTrue D.tells → IsErrOf result LogErr.Memory → D.past disk.new ≡ D.past disk.old }
+
+        // A closed log that rests, whose new name no file has, keeps all its items: at each moment a crash leaves them
+        // under one of the two names and no file under the other, and a closed log of either name may be trusted.
+        ensures renamed { (items : List (List ℕ)) → IsTrue D.tells
+            → Rests (D.past disk.old) self.old.name (Some items) → Rests (D.past disk.old) name None
+            → OnOk result (IsRenamed (D.past disk.new) self.old.name name items) }
+        ensures left { (items : List (List ℕ)) → IsTrue D.tells
+            → Rests (D.past disk.old) self.old.name (Some items) → Rests (D.past disk.old) name None
+            → UnderOne self.old.name name items (reads (D.past disk.new)) }
+        ensures any_moment { (items : List (List ℕ)) → IsTrue D.tells
+            → Rests (D.past disk.old) self.old.name (Some items) → Rests (D.past disk.old) name None
+            → Moments (Crashes (UnderOne self.old.name name items)) (D.past disk.old) (D.past disk.new) }
+        ensures sound { (items : List (List ℕ)) → IsTrue D.tells
+            → Rests (D.past disk.old) self.old.name (Some items) → Rests (D.past disk.old) name None
+            → Moments (λ past. IsSound past self.old.name × IsSound past name) (D.past disk.old) (D.past disk.new) }
+        ensures calls { LogCalls D.Disk disk.old disk.new (λ n. (n ≡ self.old.name) ⊎ (n ≡ name))
+            OnlyFileOrMemory result }
+        ensures few { D.moment disk.new ≤ D.moment disk.old + 1 }
+    {
+        told(self.file, disk.rename(self.file, name))?;
+        self.name = name;
+        self.file = name;
+        Ok(())
+    }
+
+    /// The log whose file was read so. A file whose mark says closed is trusted as it is: this cannot fail, and nothing
+    /// is done. One whose mark says open is renewed: its whole items are written into a draft under a closed head,
+    /// which is published. No earlier sync of the old file is trusted, and nothing of it is changed.
     pub fn resume<D: Disk>(disk: &mut D, name: FileName, read: &LogFile) -> Result<Log, LogErr>
         requires short { length name ≤ 77 }
         requires valid { IsName name }
@@ -217,7 +261,8 @@ impl Log {
         ensures trusted { read.now.was_open ≡ false → IsOk result × (disk.new ≡ disk.old) }
         ensures wanted { IsTrue D.tells → IsErrOf result LogErr.Memory → Touches (λ n. n ≡ name_of_draft name) (D.past disk.old) (D.past disk.new) }
 
-        // At Ok all items are synced. At each moment a crash leaves under the name what it could leave before, or exactly these items.
+        // At Ok all items are synced. At each moment a crash leaves under the name what it could leave before, or
+        // exactly these items.
         ensures stands { IsTrue D.tells → IsSettled (D.past disk.old) name → IsSound (D.past disk.old) name
             → IfOk result (λ log. Stands (D.past disk.new) log read.now.items (length read.now.items)) }
         ensures any_moment { IsTrue D.tells → IsSettled (D.past disk.old) name → Moments (OldOrItems (D.past disk.old) name read.now.items) (D.past disk.old) (D.past disk.new) }
@@ -387,12 +432,14 @@ fn draft_bytes(alloc: Global, head_item: &[u8]) -> Result<Vec<u8>, LogErr>
 }
 
 // Removes a file where it is there.
-fn clear<D: Disk>(disk: &mut D, name: FileName) -> Result<(), LogErr>
+pub(crate) fn clear<D: Disk>(disk: &mut D, name: FileName) -> Result<(), LogErr>
+    ensures cleared { IsTrue D.tells → Cleared name result (D.past disk.old) (D.past disk.new) }
     ensures gone { IsTrue D.tells → OnOk result (IsAbsent (D.past disk.new) name) }
     ensures left { IsTrue D.tells → OnErr result ((reads (D.past disk.new) name ≡ reads (D.past disk.old) name) ⊎ IsAbsent (D.past disk.new) name) }
     ensures touches { IsTrue D.tells → Touches (λ n. n ≡ name) (D.past disk.old) (D.past disk.new) }
     ensures only { OnlyFileOrMemory result }
     ensures time { D.moment disk.old ≤ D.moment disk.new }
+    ensures few { D.moment disk.new ≤ D.moment disk.old + 1 }
     ensures cause { LogCause (D.faults disk.old) (D.faults disk.new) (D.blamed disk.new) result }
     ensures named { (other : List ℕ) → IsErrOf result (LogErr.File other) → other ≡ name }
 {

@@ -10,8 +10,9 @@ use Rattle.disk_logs.specs.Calls.{LogCalls}
 use Rattle.disk_logs.specs.Logs.{IsLog}
 use Rattle.disk_logs.specs.declared.error.LogErr.{LogErr}
 use Rattle.disk_logs.specs.declared.error.LogErr.TheVariants as log
-use Rattle.txn_log.specs.Logs.{LogState, latest, handle, IsLogName}
+use Rattle.txn_log.specs.Logs.{LogState, latest, handle, IsLogName, IsOwn}
 use Rattle.txn_log.proofs.Acts.{touches_log}
+use Rattle.txn_log.proofs.CallerLemmas.{touches_own}
 use Rattle.mn_node.specs.Calls.{Calls}
 use Rattle.mn_node.specs.Inside.Tries.{Attempts, StaysLog, IsPlain}
 use Rattle.mn_node.specs.Seen.{answer}
@@ -54,7 +55,7 @@ wanted_owes g disk old new result same is wanted =
 
 -- the log's call was done
 pub done_owes : {D : Type 0} {Only : Result (Unit {0}) LogErr → Type 0} (g : Ghosts D) (disk disk_now : D) (old new : LogState)
-    (done : Done) → LogCalls g disk disk_now (λ n. n ≡ latest) Only (Ok tt)
+    (done : Done) → LogCalls g disk disk_now (IsOwn old) Only (Ok tt)
     → (IsTrue g.tells → StaysLog (Ok done) (g.past disk_now) new) → new.commits ≤ old.commits + 1
     → IsPlain (answer done.reply) → Attempts g disk disk_now old new (Ok done)
 done_owes g disk disk_now old new done calls stays few plain = record {
@@ -64,7 +65,7 @@ done_owes g disk disk_now old new done calls stays few plain = record {
     blames = λ name at. absurd (cc at.1);
     answered = λ none. calls.cause.uncounted (λ name at. absurd (cc at));
   };
-  touches = λ told. touches_log _ _ (calls.touches told);
+  touches = λ told. touches_own old _ _ (calls.touches told);
   log = stays;
   few = few;
   plain = plain;
@@ -73,14 +74,14 @@ done_owes g disk disk_now old new done calls stays few plain = record {
 -- the log's call failed
 pub undone_owes : {D : Type 0} {Only : Result (Unit {0}) LogErr → Type 0} {in_doubt : Bool} (g : Ghosts D) (disk disk_now : D)
     (old new : LogState) (error : LogErr) (trouble : Trouble)
-    → LogCalls g disk disk_now (λ n. n ≡ latest) Only (Err error)
+    → LogCalls g disk disk_now (IsOwn old) Only (Err error)
     → ((name : List ℕ) → error ≡ log.File name → trouble ≡ File name in_doubt)
     → ((name : List ℕ) (doubt : Bool) → trouble ≡ File name doubt → error ≡ log.File name)
     → (IsTrue g.tells → StaysLog (Err trouble) (g.past disk_now) new) → new.commits ≤ old.commits + 1
     → Attempts g disk disk_now old new (Err trouble)
 undone_owes g disk disk_now old new error trouble calls file only stays few = record {
   calls = told_calls error trouble calls.cause file only;
-  touches = λ told. touches_log _ _ (calls.touches told);
+  touches = λ told. touches_own old _ _ (calls.touches told);
   log = stays;
   few = few;
   plain = tt;
@@ -89,7 +90,7 @@ undone_owes g disk disk_now old new error trouble calls file only stays few = re
 -- ---- a commit that was appended, and then synced
 
 module _ {D : Type 0} {Only OnlySync : Result (Unit {0}) LogErr → Type 0} (g : Ghosts D) (disk mid disk_now : D) (old new : LogState)
-    (first : LogCalls g disk mid (λ n. n ≡ latest) Only (Ok tt)) (same_count : g.faults mid ≡ g.faults disk) where
+    (first : LogCalls g disk mid (IsOwn old) Only (Ok tt)) (same_count : g.faults mid ≡ g.faults disk) where
   -- the sync was done
   pub done_later : (done : Done) → LogCalls g mid disk_now (λ n. n ≡ latest) OnlySync (Ok tt)
       → (IsTrue g.tells → StaysLog (Ok done) (g.past disk_now) new) → new.commits ≤ old.commits + 1 → IsPlain (answer done.reply)
@@ -101,7 +102,7 @@ module _ {D : Type 0} {Only OnlySync : Result (Unit {0}) LogErr → Type 0} (g :
       blames = λ name at. absurd (cc at.1);
       answered = λ none. calls.cause.uncounted (λ name at. absurd (cc at)) ∙ same_count;
     };
-    touches = λ told. then_touched IsLogName _ _ _ (touches_log _ _ (first.touches told)) (touches_log _ _ (calls.touches told));
+    touches = λ told. then_touched IsLogName _ _ _ (touches_own old _ _ (first.touches told)) (touches_log _ _ (calls.touches told));
     log = stays;
     few = few;
     plain = plain;
@@ -118,7 +119,7 @@ module _ {D : Type 0} {Only OnlySync : Result (Unit {0}) LogErr → Type 0} (g :
     calls = subst (λ n. Calls n (g.faults disk_now) (g.blamed disk_now)
         (λ name. (doubt : Bool) × IsErrOf {T = Done} (Err trouble) (File name doubt)))
         same_count (told_calls error trouble calls.cause file only);
-    touches = λ told. then_touched IsLogName _ _ _ (touches_log _ _ (first.touches told)) (touches_log _ _ (calls.touches told));
+    touches = λ told. then_touched IsLogName _ _ _ (touches_own old _ _ (first.touches told)) (touches_log _ _ (calls.touches told));
     log = stays;
     few = few;
     plain = tt;

@@ -107,6 +107,7 @@ fn why(error: LogErr, doubt: bool) -> Trouble
 
 /// Appends a commit, and makes it durable where it settles. Where a sync fails the commit is in doubt.
 fn append<D: Disk>(
+    alloc: Global,
     log: &mut TxnLog,
     disk: &mut D,
     item: &CommitItem,
@@ -121,7 +122,7 @@ fn append<D: Disk>(
     ensures done { IfOk result (λ done.
         done ≡ record { reply = Reply.Done; wrote = true; settles = settles; halts = false }) }
 {
-    if let Err(error) = log.append(disk, item) {
+    if let Err(error) = log.append(alloc, disk, item) {
         return Err(why(error, true));
     }
     if settles {
@@ -379,7 +380,7 @@ impl Open {
             Err(_) => return Err(Trouble::Memory),
         };
         let plan = self.tables.plan(alloc, commit)?;
-        match append(&mut self.log, disk, &item, settles) {
+        match append(alloc, &mut self.log, disk, &item, settles) {
             Ok(done) => {
                 self.tables.apply(plan);
                 Ok(done)

@@ -1,5 +1,5 @@
 -- The acts on the log of the commits.
-use Rattle.std.proofs.Common.{◌≡◌, ◌⊎◌, ℕ, zero, suc, ◌+◌, ◌<◌, ◌≤◌, Bool, true, false, List, [], ◌∷◌, ◌++◌, length, take, drop, Some, Result, Ok, Err, OnOk, OnErr, refl, sym, ap, ◌∙◌, subst, inl, inr, append-nil, append_assoc, length-append, length-drop, arith}
+use Rattle.std.proofs.Common.{◌≡◌, ◌⊎◌, ℕ, zero, suc, ◌+◌, ◌<◌, ◌≤◌, Bool, true, false, if◌then◌else◌, List, [], ◌∷◌, ◌++◌, length, take, drop, Some, Result, Ok, Err, OnOk, OnErr, refl, sym, ap, ◌∙◌, subst, inl, inr, append-nil, append_assoc, length-append, length-drop, arith}
 use Rattle.std.specs.Prelude.{IsErrOf}
 use Rattle.std.proofs.lemmas.List.{take_all, take-append-drop}
 use Rattle.std.proofs.lemmas.List.Elements.{All-append, All-cons, All-nil}
@@ -12,13 +12,15 @@ use Rattle.file_trait.proofs.Moments.{weaker}
 use Rattle.log_items.specs.Items.{item_bytes, wire, log_bytes, IsContent, AreContents, StartsNoItem}
 use Rattle.log_items.proofs.ItemLemmas.{same_item, log_bytes-append}
 use Rattle.log_items.proofs.Unique.{written}
+use Rattle.file_trait.specs.declared.disk.Disk.{Ghosts}
+use Rattle.disk_logs.specs.Calls.{LogCalls}
 use Rattle.disk_logs.specs.Crash.{HasPrefix, Stands, IsSound, LogLeaves}
 use Rattle.disk_logs.specs.Logs.{Handle, file_of, opened, with_mark, IsLog, AreItems, HasAppended, HasMarked}
 use Rattle.disk_logs.specs.declared.error.LogErr.{LogErr}
 use Rattle.disk_logs.specs.declared.error.LogErr.TheVariants.{File, Bad, TooLong, Memory}
 use Rattle.db_model.specs.Commits.{CommitRecord}
 use Rattle.txn_log.specs.Commits.{IsItemOf, IsCommit, AreItemsOf, commit_text}
-use Rattle.txn_log.specs.Logs.{latest, LogState, handle, Reads, TxnStands, HasFirst, Leaves, IsLogName}
+use Rattle.txn_log.specs.Logs.{latest, LogState, at_latest, at_previous, handle, Reads, TxnStands, HasFirst, Leaves, IsLogName, IsOwn}
 use Rattle.txn_log.proofs.CommitLists.{count_items, take_items, items_one_more}
 
 pub on_ok : {P Q : Type 0} (r : Result Unit LogErr) → (P → Q) → OnOk r P → OnOk r Q
@@ -36,7 +38,8 @@ first_commits commits items synced bytes are (zero, low, high, has) = absurd (om
 first_commits commits items synced bytes are (suc n, low, high, has) =
     (n, omega (arith, low), omega (arith, high, count_items commits items are), (take (suc n) items, take_items n commits items are, has))
 
-leaves_commits : (commits : List CommitRecord) (items : List (List ℕ)) (synced : ℕ) (past : Past) → AreItemsOf commits items → LogLeaves latest items (suc synced) past → Leaves commits synced past
+pub leaves_commits : (commits : List CommitRecord) (items : List (List ℕ)) (synced : ℕ) (past : Past) → AreItemsOf commits items
+    → LogLeaves latest items (suc synced) past → Leaves commits synced past
 leaves_commits commits items synced past are h image w = let r = h image w in (r.0, r.1, first_commits commits items synced r.0 are r.2)
 
 pub moments_commits : (commits : List CommitRecord) (items : List (List ℕ)) (synced : ℕ) (old new : Past) (name : List ℕ) → name ≡ latest → AreItemsOf commits items
@@ -71,44 +74,79 @@ touches_latest old new file is t = touches_more (λ n. n ≡ file) (λ n. n ≡ 
 pub touches_log : (old new : Past) → Touches (λ n. n ≡ latest) old new → Touches IsLogName old new
 touches_log old new t = touches_more (λ n. n ≡ latest) IsLogName old new (λ name at. inl at) t
 
+-- the names that a call touches are the log's
+pub own_log : (log : LogState) (name : List ℕ) → IsOwn log name → IsLogName name
+own_log log name (inl is) = inl is
+own_log log name (inr (waits, is)) = inr is
+
+-- a call owes the same of more names
+pub wider_calls : {D T : Type 0} {Own : List ℕ → Type 0} {Only : Result T LogErr → Type 0} (g : Ghosts D) (old new : D)
+    (Wide : List ℕ → Type 0) (Any : Result T LogErr → Type 0) (r : Result T LogErr) → ((name : List ℕ) → Own name → Wide name)
+    → (Only r → Any r) → LogCalls g old new Own Only r → LogCalls g old new Wide Any r
+wider_calls {Own = Own} g old new Wide Any r wider only calls = record {
+  touches = λ told. touches_more Own Wide _ _ wider (calls.touches told);
+  time = calls.time;
+  named = λ name failed. wider name (calls.named name failed);
+  only = only calls.only;
+  cause = calls.cause;
+}
+
 -- ---- the handle
 
+-- a log that does not wait has its file under its name
+pub made_handle : (state : LogState) → state.waits ≡ false → handle state ≡ at_latest state
+made_handle state made = ap (λ b. if b then at_previous else at_latest state) made
+
+pub held_at : {log : Handle} (state : LogState) → log ≡ handle state → state.waits ≡ false → log ≡ at_latest state
+held_at state is made = is ∙ made_handle state made
+
+pub waits_handle : (state : LogState) → state.waits ≡ true → handle state ≡ at_previous
+waits_handle state waits = ap (λ b. if b then at_previous else at_latest state) waits
+
 -- a log that is the handle of a state, or the open one of it
-pub handle_file : (log : Handle) (state : LogState) → log ≡ handle state → file_of log ≡ latest
+pub handle_file : (log : Handle) (state : LogState) → log ≡ at_latest state → file_of log ≡ latest
 handle_file log state is = ap file_of is
 
-pub handle_name : (log : Handle) (state : LogState) → log ≡ handle state → log.name ≡ latest
+pub handle_name : (log : Handle) (state : LogState) → log ≡ at_latest state → log.name ≡ latest
 handle_name log state is = ap (λ (l : Handle). l.name) is
 
 -- it stands with these items
-pub txn_stands : (past : Past) (log : Handle) (state : LogState) (commits : List CommitRecord) (items : List (List ℕ)) (synced : ℕ) → log ≡ handle state → state.commits ≡ length commits → AreItemsOf commits items
+pub txn_stands : (past : Past) (log : Handle) (state : LogState) (commits : List CommitRecord) (items : List (List ℕ)) (synced : ℕ)
+    → state.waits ≡ false → log ≡ at_latest state → state.commits ≡ length commits → AreItemsOf commits items
     → Stands past log items (suc synced) → TxnStands past state commits synced
-txn_stands past log state commits items synced is count are stands =
-    record { count = count; items = items; are = are; stands = subst (λ l. Stands past l items (suc synced)) is stands }
+txn_stands past log state commits items synced made is count are stands =
+    record { made = made; count = count; items = items; are = are; stands = subst (λ l. Stands past l items (suc synced)) is stands }
 
-pub log_stands : (past : Past) (log : Handle) (state : LogState) (commits : List CommitRecord) (synced : ℕ) → log ≡ handle state → (h : TxnStands past state commits synced)
+pub log_stands : (past : Past) (log : Handle) (state : LogState) (commits : List CommitRecord) (synced : ℕ) → log ≡ at_latest state
+    → (h : TxnStands past state commits synced)
     → Stands past log h.items (suc synced)
 log_stands past log state commits synced is h = subst (λ l. Stands past l h.items (suc synced)) (sym is) h.stands
 
 -- the same where all is synced
-pub txn_synced : (past : Past) (log : Handle) (state : LogState) (commits : List CommitRecord) (items : List (List ℕ)) → log ≡ handle state → state.commits ≡ length commits → AreItemsOf commits items
+pub txn_synced : (past : Past) (log : Handle) (state : LogState) (commits : List CommitRecord) (items : List (List ℕ))
+    → state.waits ≡ false → log ≡ at_latest state → state.commits ≡ length commits → AreItemsOf commits items
     → Stands past log items (length items) → TxnStands past state commits (length commits)
-txn_synced past log state commits items is count are stands =
-    txn_stands past log state commits items (length commits) is count are (subst (Stands past log items) (count_items commits items are) stands)
+txn_synced past log state commits items made is count are stands =
+    txn_stands past log state commits items (length commits) made is count are
+    (subst (Stands past log items) (count_items commits items are) stands)
 
-pub handle_of : (log : Handle) (commits : ℕ) → log.name ≡ latest → log.draft ≡ false → log ≡ handle (record { commits = commits; closed = log.closed })
+pub handle_of : (log : Handle) (commits : ℕ) → log.name ≡ latest → log.draft ≡ false
+    → log ≡ at_latest (record { commits = commits; closed = log.closed; waits = false })
 handle_of log commits name draft = λ i. record { name = name i; draft = draft i; closed = log.closed }
 
 -- after an act
-pub handle_same : (log now : Handle) (was : LogState) (commits : ℕ) → log ≡ handle was → now ≡ log → now ≡ handle (record { commits = commits; closed = now.closed })
+pub handle_same : (log now : Handle) (was : LogState) (commits : ℕ) → log ≡ at_latest was → now ≡ log
+    → now ≡ at_latest (record { commits = commits; closed = now.closed; waits = false })
 handle_same log now was commits is same =
     handle_of now commits (ap (λ (l : Handle). l.name) (same ∙ is)) (ap (λ (l : Handle). l.draft) (same ∙ is))
 
-pub handle_marked : (log now : Handle) (was : LogState) (commits : ℕ) (closed : Bool) → log ≡ handle was → now ≡ with_mark closed log → now ≡ handle (record { commits = commits; closed = now.closed })
+pub handle_marked : (log now : Handle) (was : LogState) (commits : ℕ) (closed : Bool) → log ≡ at_latest was → now ≡ with_mark closed log
+    → now ≡ at_latest (record { commits = commits; closed = now.closed; waits = false })
 handle_marked log now was commits closed is marked =
     handle_of now commits (ap (λ (l : Handle). l.name) marked ∙ ap (λ (l : Handle). l.name) is) (ap (λ (l : Handle). l.draft) marked ∙ ap (λ (l : Handle). l.draft) is)
 
-pub handle_either : (log now : Handle) (was : LogState) (commits : ℕ) (closed : Bool) → log ≡ handle was → (now ≡ log) ⊎ (now ≡ with_mark closed log) → now ≡ handle (record { commits = commits; closed = now.closed })
+pub handle_either : (log now : Handle) (was : LogState) (commits : ℕ) (closed : Bool) → log ≡ at_latest was
+    → (now ≡ log) ⊎ (now ≡ with_mark closed log) → now ≡ at_latest (record { commits = commits; closed = now.closed; waits = false })
 handle_either log now was commits closed is (inl same) = handle_same log now was commits is same
 handle_either log now was commits closed is (inr marked) = handle_marked log now was commits closed is marked
 
@@ -194,8 +232,9 @@ module _ (commits : List CommitRecord) (items : List (List ℕ)) (commit : Commi
   append_left TooLong mark new is = absurd is
 
 -- the log's file reads as a log after an append
-pub append_logs : (r : Result Unit LogErr) (old new : Past) (log now : Handle) (was : LogState) (bytes items : List ℕ) → log ≡ handle was → bytes ≡ items → ((commit : CommitRecord) × IsItemOf commit items)
-    → IsLog old (handle was) → ((name : List ℕ) → r ≡ Err (File name) → ⊥)
+pub append_logs : (r : Result Unit LogErr) (old new : Past) (log now : Handle) (was : LogState) (bytes items : List ℕ)
+    → log ≡ at_latest was → bytes ≡ items → ((commit : CommitRecord) × IsItemOf commit items)
+    → IsLog old (at_latest was) → ((name : List ℕ) → r ≡ Err (File name) → ⊥)
     → ((all more : List (List ℕ)) → bytes ≡ wire more → reads old (file_of log) ≡ Some (log_bytes log.closed all) → HasAppended r now.closed (opened log).closed all more (reads new (file_of log)))
     → (all : List (List ℕ)) × (reads new latest ≡ Some (log_bytes now.closed all))
 append_logs r old new log now was bytes items is same (commit, item) (all, here) no_fault given = by r no_fault
@@ -211,7 +250,8 @@ append_logs r old new log now was bytes items is same (commit, item) (all, here)
     by (Err TooLong) no_fault so = absurd so
 
 -- the same after a close for which memory was wanting
-pub close_logs : (r : Result Unit LogErr) (old new : Past) (log now : Handle) (was : LogState) → log ≡ handle was → IsLog old (handle was) → IsErrOf r Memory → (IsErrOf r Memory → now ≡ log)
+pub close_logs : (r : Result Unit LogErr) (old new : Past) (log now : Handle) (was : LogState) → log ≡ at_latest was
+    → IsLog old (at_latest was) → IsErrOf r Memory → (IsErrOf r Memory → now ≡ log)
     → ((all : List (List ℕ)) → reads old (file_of log) ≡ Some (log_bytes log.closed all) → HasMarked r log.closed true all (reads new (file_of log)))
     → (all : List (List ℕ)) × (reads new latest ≡ Some (log_bytes now.closed all))
 close_logs r old new log now was is (all, here) wanted same given = (
@@ -228,7 +268,8 @@ close_logs r old new log now was is (all, here) wanted same given = (
     by (Err TooLong) wanted so = absurd so
 
 -- the log itself
-module _ (old new : Past) (log now : Handle) (was : LogState) (commits : List CommitRecord) (synced : ℕ) (is : log ≡ handle was) (h : TxnStands old was commits synced) where
+module _ (old new : Past) (log now : Handle) (was : LogState) (commits : List CommitRecord) (synced : ℕ) (is : log ≡ at_latest was)
+    (h : TxnStands old was commits synced) where
   log_reads : reads old (file_of log) ≡ Some (log_bytes log.closed h.items)
   log_reads = ap (λ (l : Handle). reads old (file_of l)) is ∙ h.stands.stands.read ∙ ap (λ (l : Handle). Some (log_bytes l.closed h.items)) (sym is)
 
@@ -282,24 +323,28 @@ module _ (old new : Past) (log now : Handle) (was : LogState) (commits : List Co
       (given h.items (suc synced) (log_stands old log was commits synced is h) (ap (λ (l : Handle). l.closed) is ∙ is_open))
 
   -- at Ok
-  module _ (state : LogState) (now_is : now ≡ handle state) where
+  module _ (state : LogState) (made : state.waits ≡ false) (now_is : now ≡ at_latest state) where
     pub appended_stands : (bytes : List ℕ) (commit : CommitRecord) → state.commits ≡ was.commits + 1 → IsItemOf commit bytes
         → ((all more : List (List ℕ)) (least : ℕ) → AreContents more → bytes ≡ wire more → Stands old log all least → Stands new now (all ++ more) least)
         → TxnStands new state (commits ++ commit ∷ []) synced
     appended_stands bytes commit more item given =
-        txn_stands new now state (commits ++ commit ∷ []) (h.items ++ commit_text commit ∷ []) synced now_is (omega (arith, more, h.count, length-append commits (commit ∷ [])))
+        txn_stands new now state (commits ++ commit ∷ []) (h.items ++ commit_text commit ∷ []) synced made now_is
+        (omega (arith, more, h.count, length-append commits (commit ∷ [])))
         (items_one_more commits h.items commit (commit_text commit) h.are item.text)
         (given h.items (commit_text commit ∷ []) (suc synced) (one_fits (commit_text commit) item.fits) (item_wire bytes commit item) (log_stands old log was commits synced is h))
 
     pub kept_stands : state.commits ≡ was.commits → ((all : List (List ℕ)) (least : ℕ) → Stands old log all least → Stands new now all least) → TxnStands new state commits synced
-    kept_stands same given = txn_stands new now state commits h.items synced now_is (same ∙ h.count) h.are (given h.items (suc synced) (log_stands old log was commits synced is h))
+    kept_stands same given = txn_stands new now state commits h.items synced made now_is (same ∙ h.count) h.are
+        (given h.items (suc synced) (log_stands old log was commits synced is h))
 
     pub synced_stands : state.commits ≡ was.commits → ((all : List (List ℕ)) (least : ℕ) → Stands old log all least → Stands new now all (length all)) → TxnStands new state commits (length commits)
     synced_stands same given =
-        txn_synced new now state commits h.items now_is (same ∙ h.count) h.are (given h.items (suc synced) (log_stands old log was commits synced is h))
+        txn_synced new now state commits h.items made now_is (same ∙ h.count) h.are
+        (given h.items (suc synced) (log_stands old log was commits synced is h))
 
   -- the same where the answer is to be looked at
-  pub when_synced : (r : Result Unit LogErr) (state : LogState) → OnOk r (now ≡ handle state) → state.commits ≡ was.commits
+  pub when_synced : (r : Result Unit LogErr) (state : LogState) → state.waits ≡ false → OnOk r (now ≡ at_latest state)
+      → state.commits ≡ was.commits
       → ((all : List (List ℕ)) (least : ℕ) → Stands old log all least → OnOk r (Stands new now all (length all))) → OnOk r (TxnStands new state commits (length commits))
-  when_synced (Ok done) state now_is same given = synced_stands state now_is same given
-  when_synced (Err error) state now_is same given = tt
+  when_synced (Ok done) state made now_is same given = synced_stands state made now_is same given
+  when_synced (Err error) state made now_is same given = tt

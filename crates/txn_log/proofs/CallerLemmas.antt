@@ -1,12 +1,18 @@
 -- What a caller cites of the log's file.
-use Rattle.std.proofs.Common.{◌≡◌, ◌⊎◌, ℕ, ◌+◌, ◌≤◌, List, [], ◌∷◌, ◌++◌, length, take, Option, Some, refl, inl, inr}
+use Rattle.std.proofs.Common.{◌≡◌, ◌⊎◌, ℕ, ◌+◌, ◌≤◌, List, [], ◌∷◌, ◌++◌, length, take, Option, Some, Result, refl, inl, inr}
 use Rattle.std.specs.Prelude.{slice_get}
 use Rattle.term_core.specs.Tree.{depth, greatest_depth}
+use Rattle.file_trait.specs.DiskModel.{Past}
+use Rattle.file_trait.specs.Touched.{Touches}
+use Rattle.file_trait.specs.declared.disk.Disk.{Ghosts}
 use Rattle.log_items.specs.Items.{wire}
+use Rattle.disk_logs.specs.Calls.{LogCalls}
+use Rattle.disk_logs.specs.declared.error.LogErr.{LogErr}
 use Rattle.disk_logs.specs.Logs.{FileRead, IsRead}
 use Rattle.db_model.specs.Commits.{CommitRecord}
 use Rattle.txn_log.specs.Commits.{IsLogged, IsCommit, IsNoCommit, AreItemsOf, commit_tree, op_trees}
-use Rattle.txn_log.specs.Logs.{Reads, IsOther, IsWrongAt, IsWrong, IsNoLog}
+use Rattle.txn_log.specs.Logs.{latest, LogState, Reads, TxnStands, IsOther, IsWrongAt, IsWrong, IsNoLog, IsLogName, IsOwn}
+use Rattle.txn_log.proofs.Acts.{touches_more, own_log, wider_calls}
 use Rattle.txn_log.proofs.CommitLists.{AllowsFirst, TellsNext, log_not_wrong, items_are, reads_as, wrong_read}
 use Rattle.txn_log.proofs.CommitsRead.{same_content}
 use Rattle.txn_log.proofs.Counts.{wrong_from, items_more}
@@ -97,3 +103,18 @@ items_of_reads = items_are
 pub wrong_of_items : (Allowed : List CommitRecord → Type 0) (read : FileRead) (file : Option (List ℕ)) (at : ℕ)
     → IsRead read → file ≡ Some read.bytes → IsWrongAt Allowed read.items at → IsWrong Allowed at file
 wrong_of_items = wrong_read
+
+-- ---- the names that a call touches
+
+pub touches_own : (log : LogState) (old new : Past) → Touches (IsOwn log) old new → Touches IsLogName old new
+touches_own log old new = touches_more (IsOwn log) IsLogName old new (own_log log)
+
+pub own_calls : {D T : Type 0} {Only : Result T LogErr → Type 0} (g : Ghosts D) (old new : D) (log : LogState) (r : Result T LogErr)
+    → LogCalls g old new (λ n. n ≡ latest) Only r → LogCalls g old new (IsOwn log) Only r
+own_calls {Only = Only} g old new log r = wider_calls g old new (IsOwn log) Only r (λ name is. inl is) (λ only. only)
+
+-- a log that stands waits for no file
+pub own_latest : (past : Past) (log : LogState) (commits : List CommitRecord) (synced : ℕ) → TxnStands past log commits synced
+    → (name : List ℕ) → IsOwn log name → name ≡ latest
+own_latest past log commits synced h name (inl is) = is
+own_latest past log commits synced h name (inr (waits, is)) = absurd (cc (h.made, waits))

@@ -6,11 +6,15 @@ pub mod CommitsRead
 pub mod Counts
 pub mod Decided
 pub mod Deciding
+pub mod Dropping
 pub mod FirstItem
+pub mod Held
 pub mod Levels
 pub mod LogName
 pub mod Making
 pub mod OneLog
 pub mod Opening
 pub mod Reading
+pub mod Rotating
 pub mod SchemaDecided
+pub mod TwoLogs

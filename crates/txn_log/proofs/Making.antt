@@ -13,7 +13,7 @@ use Rattle.disk_logs.specs.Logs.{Handle, draft_name, IsKept, IsMoved}
 use Rattle.disk_logs.specs.declared.error.LogErr.{LogErr}
 use Rattle.db_model.specs.Commits.{CommitRecord}
 use Rattle.txn_log.specs.Commits.{head_text}
-use Rattle.txn_log.specs.Logs.{latest, LogState, handle, Reads, TxnStands, OldOrCommits, IsLogName}
+use Rattle.txn_log.specs.Logs.{latest, LogState, at_latest, Reads, TxnStands, OldOrCommits, IsLogName}
 use Rattle.txn_log.specs.Opens.{Opens}
 use Rattle.txn_log.proofs.Acts.{touches_more, txn_synced, handle_of}
 use Rattle.txn_log.proofs.FirstItem.{text_of_head, head_fits}
@@ -46,7 +46,7 @@ no_commits commits file none (inl (also, is)) = is
 no_commits commits file none (inr (bytes, there, has)) = absurd (cc)
 
 abbrev pub new_state : Handle → LogState
-new_state log = record { commits = 0; closed = log.closed }
+new_state log = record { commits = 0; closed = log.closed; waits = false }
 
 -- ---- the draft
 
@@ -165,7 +165,7 @@ module _ (old mid : Past) (name : List ℕ) (name_is : name ≡ latest) (absent 
       kept = λ commits has. tt;
       stands = λ commits has settled sound.
           subst (λ cs. TxnStands new (new_state log) cs (length cs)) (sym (no_commits commits (reads old latest) absent has))
-          (txn_synced new log (new_state log) [] (head_text ∷ []) log_is refl (text_of_head, tt)
+          (txn_synced new log (new_state log) [] (head_text ∷ []) refl log_is refl (text_of_head, tt)
           (stands (head_text ∷ []) head_fits draft_stands));
       any_moment = made_moments;
       sound = λ sound. made_sound;
@@ -175,5 +175,5 @@ module _ (old mid : Past) (name : List ℕ) (name_is : name ≡ latest) (absent 
         is_closed : log.closed ≡ true
         is_closed = ap (λ (l : Handle). l.closed) is ∙ draft_closed
 
-        log_is : log ≡ handle (new_state log)
+        log_is : log ≡ at_latest (new_state log)
         log_is = handle_of log 0 (ap (λ (l : Handle). l.name) is ∙ draft_is_latest) (ap (λ (l : Handle). l.draft) is)

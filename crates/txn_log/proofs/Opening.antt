@@ -8,13 +8,14 @@ use Rattle.file_trait.proofs.Moments.{weaker}
 use Rattle.log_items.specs.Items.{wire, log_bytes, HasItems}
 use Rattle.log_items.proofs.Unique.{behind_head, same_head}
 use Rattle.disk_logs.specs.Crash.{Stands, IsSound, OldOrItems}
-use Rattle.disk_logs.specs.Logs.{Handle, FileRead, draft_name, IsRead}
+use Rattle.disk_logs.specs.Logs.{Handle, FileRead, draft_name, IsRead, IsLog}
 use Rattle.disk_logs.specs.declared.error.LogErr.{LogErr}
 use Rattle.db_model.specs.Commits.{CommitRecord}
 use Rattle.txn_log.specs.Commits.{AreItemsOf}
-use Rattle.txn_log.specs.Logs.{latest, LogState, handle, Reads, OldOrCommits, IsLogName}
+use Rattle.txn_log.specs.Logs as here
+use Rattle.txn_log.specs.Logs.{latest, LogState, Reads, OldOrCommits, IsLogName}
 use Rattle.txn_log.specs.Opens.{Opens}
-use Rattle.txn_log.proofs.Acts.{reads_whole, touches_more, txn_synced}
+use Rattle.txn_log.proofs.Acts.{reads_whole, touches_more, txn_synced, made_handle}
 use Rattle.txn_log.proofs.CommitLists.{count_items, items_are}
 
 -- ---- it was read
@@ -75,17 +76,22 @@ module _ (old : Past) (read : FileRead) (whole : IsRead read) (there : reads old
     }
 
     -- it was resumed
-    pub resumed : (state : LogState) (log : Handle) → state.commits + 1 ≡ length read.items → log ≡ handle state
+    pub resumed : (state : LogState) (log : Handle) → state.waits ≡ false → state.commits + 1 ≡ length read.items
+        → log ≡ here.at_latest state
         → log ≡ record { name = own; draft = false; closed = true }
         → reads new own ≡ Some (log_bytes true read.items)
         → (IsSettled old own → IsSound old own → Stands new log read.items (length read.items))
         → Opens old new (Ok state)
-    resumed state log number log_is is reads_own stands = record {
-      log = (read.items, reads_now ∙ ap (λ b. Some (log_bytes b read.items)) (sym is_closed));
+    resumed state log made number log_is is reads_own stands = record {
+      log = subst (IsLog new) (sym (made_handle state made)) (
+        read.items,
+        reads_now ∙ ap (λ b. Some (log_bytes b read.items))
+            (sym is_closed),
+      );
       opened = λ commits has. (count commits has, reads_whole true new commits read.items (are_items commits has) whole.fit reads_now);
       kept = λ commits has. tt;
       stands = λ commits has settled sound.
-          txn_synced new log state commits read.items log_is (count commits has) (are_items commits has)
+          txn_synced new log state commits read.items made log_is (count commits has) (are_items commits has)
           (stands (subst (IsSettled old) (sym own_is) settled) (subst (IsSound old) (sym own_is) sound));
       any_moment = commit_moments;
       sound = at_latest.sound;

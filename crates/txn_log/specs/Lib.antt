@@ -1,3 +1,4 @@
 pub mod Commits
 pub mod Logs
 pub mod Opens
+pub mod TwoLogs

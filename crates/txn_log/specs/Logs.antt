@@ -1,5 +1,5 @@
 -- The log of the commits, and what a crash may leave of it.
-use Rattle.std.specs.Prelude.{◌≡◌, ◌⊎◌, ℕ, Bool, false, suc, ◌+◌, ◌≤◌, List, [], ◌∷◌, ◌++◌, length, take, codes, Option, None, Some, Result, Ok, Err}
+use Rattle.std.specs.Prelude.{◌≡◌, ◌⊎◌, ℕ, Bool, true, false, if◌then◌else◌, suc, ◌+◌, ◌≤◌, List, [], ◌∷◌, ◌++◌, length, take, codes, Option, None, Some, Result, Ok, Err}
 use Rattle.file_trait.specs.DiskModel.{Past, IsImage, Crashes}
 use Rattle.file_trait.specs.Shown.{ReadsAs}
 use Rattle.log_items.specs.Items.{wire, HasItems}
@@ -14,14 +14,28 @@ use Rattle.txn_log.specs.Commits.{IsHead, IsCommit, AreItemsOf, HasCommits}
 abbrev pub latest : List ℕ
 latest = codes "LATEST.LOG"
 
--- the log of the commits: how many it has, and whether its mark says closed
+-- the other name, which a log gets when a new one takes its place
+abbrev pub previous : List ℕ
+previous = codes "PREVIOUS.LOG"
+
+-- The log of the commits: how many it has, whether its mark says closed, and whether it waits for its file to be made,
+-- since the one before it has its other name already.
 pub record LogState : Type 0 where
   pub commits : ℕ
   pub closed : Bool
+  pub waits : Bool
 
 -- its file: published, under its name
+abbrev pub at_latest : LogState → Handle
+at_latest log = record { name = latest; draft = false; closed = log.closed }
+
+-- the file of the one before it: published and closed, under the other name
+abbrev pub at_previous : Handle
+at_previous = record { name = previous; draft = false; closed = true }
+
+-- the file that is there
 abbrev pub handle : LogState → Handle
-handle log = record { name = latest; draft = false; closed = log.closed }
+handle log = if log.waits then at_previous else at_latest log
 
 -- no file has no commits, and a file those of its log
 abbrev pub Reads : List CommitRecord → Option (List ℕ) → Type 0
@@ -77,10 +91,11 @@ IsAny commits = Unit {0}
 
 -- a published log has these commits, whatever a crash leaves has the first ones of them, and so many at least
 pub record TxnStands (past : Past) (log : LogState) (commits : List CommitRecord) (synced : ℕ) : Type 0 where
+  pub made : log.waits ≡ false
   pub count : log.commits ≡ length commits
   pub items : List (List ℕ)
   pub are : AreItemsOf commits items
-  pub stands : Stands past (handle log) items (suc synced)
+  pub stands : Stands past (at_latest log) items (suc synced)
 
 -- the file has the first ones of these commits, and at least so many
 abbrev pub HasFirst : List CommitRecord → ℕ → List ℕ → Type 0
@@ -99,6 +114,10 @@ OldOrCommits old commits = Crashes (λ image.
 -- the names that the log's calls touch
 abbrev pub IsLogName : List ℕ → Type 0
 IsLogName name = (name ≡ latest) ⊎ (name ≡ draft_name latest)
+
+-- the same of one call: a draft is touched only where the log waits for its file
+abbrev pub IsOwn : LogState → List ℕ → Type 0
+IsOwn log name = (name ≡ latest) ⊎ ((log.waits ≡ true) × (name ≡ draft_name latest))
 
 -- ---- reading
 

@@ -1,9 +1,15 @@
 //! What contents and files say.
 
-ghost use Rattle.std.specs.Prelude.{◌≡◌, ◌⊎◌, List, ℕ, Option};
+ghost use Rattle.std.specs.Prelude.{◌≡◌, ◌≢◌, ◌⊎◌, List, length, ℕ, true, Option, None, Some};
+ghost use Rattle.file_trait.specs.DiskModel.{Past, reads, Crashes, IsSettled};
+ghost use Rattle.file_trait.specs.Moments.{Moments};
+ghost use Rattle.file_trait.specs.Touched.{Touches};
+ghost use Rattle.log_items.specs.Items.{log_bytes, AreContents};
+ghost use Rattle.disk_logs.specs.Crash.{IsSound};
 ghost use Rattle.db_model.specs.Commits.{CommitRecord};
 ghost use Rattle.txn_log.specs.Commits.{IsCommit, AreItemsOf};
-ghost use Rattle.txn_log.specs.Logs.{Reads, IsAny, IsWrong};
+ghost use Rattle.txn_log.specs.Logs.{latest, previous, LogState, Reads, IsAny, IsWrong, Leaves, IsLogName};
+ghost use Rattle.txn_log.specs.TwoLogs.{TwoLogs, AreSound, PreviousStands, LogsStand, commits_of};
 
 /// No content is a text of two commits.
 #[tactic(none)]
@@ -30,4 +36,35 @@ pub fn log_law()
         → IsWrong IsAny at file → IsWrong IsAny other file → at ≡ other }
     ensures either { (file : Option (List ℕ))
         → ((commits : List CommitRecord) × Reads commits file) ⊎ ((at : ℕ) × IsWrong IsAny at file) }
+{}
+
+/// The two logs between calls.
+#[tactic(none)]
+pub fn logs_law()
+    // Whatever a crash leaves of them, the commits of PREVIOUS.LOG and then those of LATEST.LOG are the first ones of
+    // all, and so many at least. Now they are all.
+    ensures leaves { (past : Past) (log : LogState) (before : Option (List CommitRecord)) (after : List CommitRecord)
+        (synced : ℕ) → LogsStand past log before after synced
+        → Crashes (TwoLogs (commits_of before) after synced) past }
+    ensures reads { (past : Past) (log : LogState) (before : Option (List CommitRecord)) (after : List CommitRecord)
+        (synced : ℕ) → LogsStand past log before after synced
+        → TwoLogs (commits_of before) after (length after) (reads past) }
+    ensures sound { (past : Past) (log : LogState) (before : Option (List CommitRecord)) (after : List CommitRecord)
+        (synced : ℕ) → LogsStand past log before after synced → AreSound past }
+
+    // They stand so at each moment while another file is worked on, and PREVIOUS.LOG also while LATEST.LOG is.
+    ensures kept { (other : List ℕ) (log : LogState) (before : Option (List CommitRecord)) (after : List CommitRecord)
+        (synced : ℕ) (old new : Past) → other ≢ latest → other ≢ previous → Touches (λ n. n ≡ other) old new
+        → LogsStand old log before after synced → Moments (λ past. LogsStand past log before after synced) old new }
+    ensures beside { (before : Option (List CommitRecord)) (old new : Past) → Touches IsLogName old new
+        → PreviousStands old before → Moments (λ past. PreviousStands past before) old new }
+    ensures grown { (before : Option (List CommitRecord)) (after : List CommitRecord) (synced : ℕ) (old new : Past)
+        → Touches IsLogName old new → PreviousStands old before → Moments (Leaves after synced) old new
+        → Moments (Crashes (TwoLogs (commits_of before) after synced)) old new }
+
+    // PREVIOUS.LOG stands where a crash leaves its name no other file, and it is not there, or closed and sound.
+    ensures absent { (past : Past) → IsSettled past previous → reads past previous ≡ None → PreviousStands past None }
+    ensures trusted { (past : Past) (commits : List CommitRecord) (items : List (List ℕ)) → IsSound past previous
+        → IsSettled past previous → AreItemsOf commits items → AreContents items
+        → reads past previous ≡ Some (log_bytes true items) → PreviousStands past (Some commits) }
 {}

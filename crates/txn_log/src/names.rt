@@ -14,3 +14,12 @@ pub fn latest() -> FileName
 {
     FileName::new(b"LATEST.LOG").unwrap()
 }
+
+/// The other name of the log, which it gets when a new one takes its place.
+#[tactic(auto, using(crate::proofs::LogName::previous_name))]
+pub fn previous() -> FileName
+    ensures value { result ≡ logs.previous }
+    ensures name { IsName result }
+{
+    FileName::new(b"PREVIOUS.LOG").unwrap()
+}

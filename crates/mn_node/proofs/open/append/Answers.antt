@@ -1,4 +1,5 @@
 use Rattle.std.proofs.Common.{◌++◌, [], ◌∷◌, Ok, refl, ap, arith}
+use Rattle.txn_log.proofs.CallerLemmas.{own_latest}
 use Rattle.mn_node.proofs.Acts.{only_more, never_wants, stays_log}
 use Rattle.mn_node.proofs.Appending.{append_failed, append_unsynced, appended_only, appended_synced, appends_at, appended_done}
 use Rattle.mn_node.proofs.Owed.{done_owes, undone_owes, undone_later, done_later, owes_at}
@@ -10,7 +11,8 @@ returns-in-Err-clause-appends g c told commits synced commit item stands =
     append_failed commit commits synced c.in-Err.error c.why.result
     (record {
       only = c.in-Err.ensures.calls.only;
-      named = c.in-Err.ensures.calls.named;
+      named = λ name is. own_latest (g.D.Disk.past c.args.disk.now) c.args.log.now commits synced stands name
+          (c.in-Err.ensures.calls.named name is);
       file = c.why.ensures.file;
       memory = c.why.ensures.memory;
     })

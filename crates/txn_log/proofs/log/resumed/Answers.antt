@@ -1,4 +1,4 @@
-use Rattle.std.proofs.Common.{Some, length, refl, sym, ap, ◌∙◌}
+use Rattle.std.proofs.Common.{false, Some, length, refl, sym, ap, ◌∙◌}
 use Rattle.disk_logs.specs.Logs.{Handle, FileRead}
 use Rattle.txn_log.proofs.Acts.{handle_of}
 use Rattle.txn_log.proofs.Opening.{was_closed, not_resumed, resumed}
@@ -18,7 +18,7 @@ returns-in-Ok-clause-opens g c told =
       sound = c.in-Ok.ensures.sound told;
       touches = c.in-Ok.ensures.calls.touches told;
     })
-    (record { commits = c.len.result; closed = log.closed }) log count
+    (record { commits = c.len.result; closed = log.closed; waits = false }) log refl count
     (handle_of log c.len.result own (ap (λ (l : Handle). l.draft) is)) is
     (c.in-Ok.ensures.items told) (c.in-Ok.ensures.stands told)
 

@@ -2,6 +2,7 @@ use Rattle.std.proofs.Common.{true, refl, arith}
 use Rattle.mn_node.specs.Effects.{stopped}
 use Rattle.mn_node.specs.declared.reply.Reply.TheVariants.{Stopped}
 use Rattle.txn_log.proofs.Acts.{touches_log}
+use Rattle.txn_log.proofs.CallerLemmas.{own_calls}
 use Rattle.mn_node.proofs.Acts.{settled, unsettled, stays_log}
 use Rattle.mn_node.proofs.Owed.{done_owes, undone_owes}
 use Rattle.mn_node.proofs.open.Open.close.Goals as goal
@@ -25,12 +26,13 @@ returns-in-Err-clause-tries g c told commits durable pending shown pends =
 
 pub returns-in-Ok-clause-owes : goal.returns-in-Ok-clause-owes
 returns-in-Ok-clause-owes g c =
-    done_owes g.D.Disk c.args.disk.now c.close.new.disk c.args.self.now.log _ _ c.in-Ok.ensures.calls (λ told up. absurd (cc up))
+    done_owes g.D.Disk c.args.disk.now c.close.new.disk c.args.self.now.log _ _
+    (own_calls g.D.Disk _ _ c.args.self.now.log _ c.in-Ok.ensures.calls) (λ told up. absurd (cc up))
     (omega (arith, c.close.ensures.commits)) (record { fault = refl; memory = refl; up = λ is. absurd (cc is) })
 
 pub returns-in-Err-clause-owes : goal.returns-in-Err-clause-owes
 returns-in-Err-clause-owes g c =
     undone_owes g.D.Disk c.args.disk.now c.close.new.disk c.args.self.now.log _ c.in-Err.error c.why.result
-    c.in-Err.ensures.calls c.why.ensures.file c.why.ensures.only
+    (own_calls g.D.Disk _ _ c.args.self.now.log _ c.in-Err.ensures.calls) c.why.ensures.file c.why.ensures.only
     (λ told. stays_log _ _ c.in-Err.error c.why.result c.why.ensures.only_memory (c.in-Err.ensures.wanted told))
     (omega (arith, c.close.ensures.commits))
