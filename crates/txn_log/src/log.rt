@@ -107,6 +107,10 @@ impl TxnLog {
         ensures ok { OnOk result (self.new.commits ≡ self.old.commits + 1) }
         ensures err { OnErr result (self.new.commits ≡ self.old.commits) }
 
+        // At Ok it waits for no file, and one that did not wait never does.
+        ensures made { OnOk result (self.new.waits ≡ false) }
+        ensures stays { self.old.waits ≡ false → self.new.waits ≡ false }
+
         // At Ok the commit stands behind the old ones. Where memory was wanting all is as before, and where the disk
         // failed the log has the old commits, or these and the new one.
         ensures stands { (commits : List CommitRecord) (synced : ℕ) (commit : CommitRecord) → IsTrue D.tells
@@ -157,6 +161,11 @@ impl TxnLog {
             → LogsStand (D.past disk.old) self.old before after synced
             → Moments (Crashes (TwoLogs (commits_of before) (after ++ commit ∷ []) synced))
             (D.past disk.old) (D.past disk.new) }
+        // Where memory was wanting it leaves only old ones.
+        ensures logs_only_old { (before : Option (List CommitRecord)) (after : List CommitRecord) (synced : ℕ)
+            → IsTrue D.tells → LogsStand (D.past disk.old) self.old before after synced
+            → IsErrOf result LogErr.Memory
+            → Moments (Crashes (TwoLogs (commits_of before) after synced)) (D.past disk.old) (D.past disk.new) }
         ensures logs_sound { (before : Option (List CommitRecord)) (after : List CommitRecord) (synced : ℕ)
             → IsTrue D.tells → LogsStand (D.past disk.old) self.old before after synced
             → Moments AreSound (D.past disk.old) (D.past disk.new) }
@@ -213,6 +222,7 @@ impl TxnLog {
         ensures nothing { self.old.closed ≡ true → (result ≡ Ok tt) × (disk.new ≡ disk.old) }
         ensures wanted { IsTrue D.tells → IsErrOf result LogErr.Memory → IsLog (D.past disk.new) (handle self.new) }
         ensures commits { self.new.commits ≡ self.old.commits }
+        ensures same { self.new.waits ≡ self.old.waits }
         ensures closed { OnOk result (self.new.closed ≡ true) }
         ensures stands { (commits : List CommitRecord) (synced : ℕ) → IsTrue D.tells
             → TxnStands (D.past disk.old) self.old commits synced
@@ -265,14 +275,16 @@ impl TxnLog {
         ensures none { self.old.waits ≡ false → OnOk result (self.new.commits ≡ 0) }
 
         // At Ok PREVIOUS.LOG has all commits, and LATEST.LOG none, and a crash leaves exactly that. Where memory was
-        // wanting all is as before, or PREVIOUS.LOG has all commits and the new log waits.
+        // wanting `waits` tells which: all is as before, or PREVIOUS.LOG has all commits and the new log waits.
         ensures stands { (commits : List CommitRecord) (synced : ℕ) → IsTrue D.tells
             → LogsStand (D.past disk.old) self.old None commits synced
             → OnOk result (LogsStand (D.past disk.new) self.new (Some commits) [] 0) }
         ensures kept { (commits : List CommitRecord) (synced : ℕ) → IsTrue D.tells
             → LogsStand (D.past disk.old) self.old None commits synced → IsErrOf result LogErr.Memory
-            → LogsStand (D.past disk.new) self.new None commits synced
-            ⊎ LogsStand (D.past disk.new) self.new (Some commits) [] 0 }
+            → self.new.waits ≡ false → LogsStand (D.past disk.new) self.new None commits synced }
+        ensures waiting { (commits : List CommitRecord) (synced : ℕ) → IsTrue D.tells
+            → LogsStand (D.past disk.old) self.old None commits synced → IsErrOf result LogErr.Memory
+            → self.new.waits ≡ true → LogsStand (D.past disk.new) self.new (Some commits) [] 0 }
 
         // Whatever it answers, the two files have all commits. At each moment a crash leaves the first ones of them,
         // and at least those that were synced, and PREVIOUS.LOG is not there or has all of them.
@@ -302,6 +314,7 @@ impl TxnLog {
         ensures wanted { IsTrue D.tells → IsErrOf result LogErr.Memory → IsLog (D.past disk.new) (handle self.new) }
         ensures made { OnOk result (self.new.waits ≡ false) }
         ensures same { self.new.commits ≡ self.old.commits }
+        ensures stays { self.old.waits ≡ false → self.new ≡ self.old }
 
         // At Ok the commits of LATEST.LOG are left. Where memory was wanting both logs stand, and the new one may be
         // made.
@@ -324,6 +337,9 @@ impl TxnLog {
             → IsTrue D.tells → LogsStand (D.past disk.old) self.old before after synced
             → Moments AreSound (D.past disk.old) (D.past disk.new) }
         ensures calls { LogCalls D.Disk disk.old disk.new IsOfLogs OnlyFileOrMemory result }
+
+        // It is the removal and its sync where the log waits for no file.
+        ensures few { self.old.waits ≡ false → D.moment disk.new ≤ D.moment disk.old + 2 }
     {
         self.ready(alloc, disk)?;
         discard(disk, previous())
@@ -334,6 +350,14 @@ impl TxnLog {
         ensures { result ≡ self.now.commits }
     {
         self.commits
+    }
+
+    /// Whether it waits for its file to be made, since the one before it is called `PREVIOUS.LOG` already. The next
+    /// `append` or `drop_previous` makes it.
+    pub fn waits(&self) -> bool
+        ensures { result ≡ self.now.waits }
+    {
+        self.waits
     }
 
     // Closes the log and gives it its other name. From then on the new one waits for its file.

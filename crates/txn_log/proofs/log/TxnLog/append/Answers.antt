@@ -242,6 +242,21 @@ returns-in_err-append-clause-logs_moments g c before after synced commit told it
     c.args.item.now commit item (λ all more least fit is. c.append.ensures.any_moment all more least told fit
     (c.bytes.ensures.value ∙ is))))
 
+pub returns-in_err-append-clause-logs_only_old : goal.returns-in_err-append-clause-logs_only_old
+returns-in_err-append-clause-logs_only_old g c before after synced told logs is =
+    let both = (c.in_ok-ready.ensures.stands before after synced told logs) in
+    let p = err_from_is_err_and c.from_residual-in_err-append.result c.from_residual-in_err-append.ensures.1 in
+    let wanted = same_error c.append.result _ _ _ _ p.1 p.2 c.in_err-append.was is in
+    then_done (Crashes (TwoLogs (commits_of before) after synced)) (g.D.Disk.past c.args.disk.now)
+    (g.D.Disk.past c.ready.new.disk) (g.D.Disk.past c.append.new.disk) (c.ready.ensures.any_moment before after synced told logs)
+    (beside_moments before (touches_log _ _ (touches_latest _ _ _
+    (ap file_of (held_at c.ready.new.self (c.self.invariant ∙ ap handle c.self.view_is) c.in_ok-ready.ensures.made))
+    (c.append.ensures.calls.touches told))) both.in_previous after synced
+    (same_moments (g.D.Disk.past c.ready.new.disk)
+    (g.D.Disk.past c.append.new.disk) c.self.inside.log c.append.new.self c.ready.new.self after synced
+    (held_at c.ready.new.self (c.self.invariant ∙ ap handle c.self.view_is) c.in_ok-ready.ensures.made) both.in_latest
+    (λ all least before. c.append.ensures.only_old all least told before wanted)))
+
 pub returns-in_err-append-clause-logs_sound : goal.returns-in_err-append-clause-logs_sound
 returns-in_err-append-clause-logs_sound g c before after synced told logs =
     let both = (c.in_ok-ready.ensures.stands before after synced told logs) in

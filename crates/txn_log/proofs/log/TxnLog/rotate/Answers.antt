@@ -29,9 +29,9 @@ returns-clause-stands g c commits synced told logs =
     (c.in_ok-retire.ensures.stands commits synced told (made_both (g.D.Disk.past c.args.disk.now) c.args.self.now None commits synced
     (sym (ap (λ (l : LogState). l.waits) c.self.view_is) ∙ c.if-self.false) logs)))
 
-pub returns-clause-kept : goal.returns-clause-kept
-returns-clause-kept g c commits synced told logs is =
-    inr (inr (
+pub returns-clause-waiting : goal.returns-clause-waiting
+returns-clause-waiting g c commits synced told logs is waits =
+    inr (
       commits,
       refl,
       refl,
@@ -39,7 +39,7 @@ returns-clause-kept g c commits synced told logs is =
       c.renew-2.ensures.kept commits told (c.in_ok-retire.ensures.stands commits synced told
           (made_both (g.D.Disk.past c.args.disk.now) c.args.self.now None commits synced
           (sym (ap (λ (l : LogState). l.waits) c.self.view_is) ∙ c.if-self.false) logs)) is,
-    ))
+    )
 
 pub returns-clause-left : goal.returns-clause-left
 returns-clause-left g c commits synced told logs =
