@@ -4,15 +4,15 @@ use Rattle.std.specs.Prelude.{slice_get, IfOk, IfSome, MatchOption}
 use Rattle.disk_logs.specs.Logs.{FileRead, IsRead, HasRead}
 use Rattle.disk_logs.specs.declared.error.LogErr.{LogErr}
 use Rattle.disk_logs.specs.declared.error.LogErr.TheVariants.{File, Bad, TooLong, Memory}
-use Rattle.txn_log.specs.Logs.{latest, LacksHead, IsNoLog, HasFound}
+use Rattle.txn_log.specs.Logs.{LacksHead, IsNoLog, HasFoundAt}
 
 -- what could not be read as items is no log
-pub not_read : (error : LogErr) (file : Option (List ℕ)) → HasRead (Err error) file
-    → ((name : List ℕ) (at : ℕ) → error ≡ Bad name at → name ≡ latest) → HasFound (Err error) file
-not_read (File name) file h named = tt
-not_read (Bad name at) file (bytes, there, bad) named = (named name at refl, (bytes, there, inl bad))
-not_read TooLong file h named = h
-not_read Memory file h named = tt
+pub not_read : (own : List ℕ) (error : LogErr) (file : Option (List ℕ)) → HasRead (Err error) file
+    → ((name : List ℕ) (at : ℕ) → error ≡ Bad name at → name ≡ own) → HasFoundAt own (Err error) file
+not_read own (File name) file h named = tt
+not_read own (Bad name at) file (bytes, there, bad) named = (named name at refl, (bytes, there, inl bad))
+not_read own TooLong file h named = h
+not_read own Memory file h named = tt
 
 -- nor is one whose first item is not a log's
 pub lacks_head : (found : Option FileRead) (read : FileRead) (file : Option (List ℕ)) → found ≡ Some read

@@ -25,6 +25,7 @@ use Rattle.txn_log.specs.TwoLogs.{TwoLogs, Rotates, AreSound, PreviousStands, Bo
 use Rattle.txn_log.proofs.Acts.{leaves_commits, reads_whole}
 use Rattle.txn_log.proofs.CommitLists.{count_items}
 use Rattle.txn_log.proofs.LogName.{latest_no_previous, previous_no_draft}
+use Rattle.txn_log.proofs.OneLog.{one_list_read}
 
 -- ---- PREVIOUS.LOG
 
@@ -367,3 +368,15 @@ more_two before after more least files t = record {
   within = omega (arith, t.within, length-append after more);
   is = t.is ∙ ap (λ cs. before ++ cs) (sym (take-append-le t.n after more t.within));
 }
+
+-- what the two files are read as
+pub one_list_of_two : (before after one two : List CommitRecord) (least : ℕ) (files : List ℕ → Option (List ℕ))
+    → TwoLogs before after least files → Reads one (files previous) → Reads two (files latest)
+    → (n : ℕ) × (least ≤ n) × (n ≤ length after) × (one ++ two ≡ before ++ take n after)
+one_list_of_two before after one two least files t first second = (
+  t.n,
+  t.enough,
+  t.within,
+  ap (λ cs. cs ++ two) (one_list_read (files previous) one t.one first t.in_previous)
+      ∙ ap (λ cs. t.one ++ cs) (one_list_read (files latest) two t.two second t.in_latest) ∙ t.is,
+)

@@ -126,15 +126,18 @@ abbrev pub IsNoLog : ℕ → Option (List ℕ) → Type 0
 IsNoLog at file = (bytes : List ℕ) × (file ≡ Some bytes)
     × (IsBadAt bytes at ⊎ ((items : List (List ℕ)) × HasItems bytes items × LacksHead items × (at ≡ 8)))
 
--- What is read of the log: nothing where there is no file, its bytes where it begins as a log, and else where it does
--- not.
+-- What is read of the log of this name: nothing where there is no file, its bytes where it begins as a log, and else
+-- where it does not.
+abbrev pub HasFoundAt : List ℕ → Result (Option FileRead) LogErr → Option (List ℕ) → Type 0
+HasFoundAt own (Ok None) file = file ≡ None
+HasFoundAt own (Ok (Some read)) file = file ≡ Some read.bytes
+HasFoundAt own (Err (Bad name at)) file = (name ≡ own) × IsNoLog at file
+HasFoundAt own (Err TooLong) file = ⊥
+HasFoundAt own (Err (File name)) file = Unit {0}
+HasFoundAt own (Err Memory) file = Unit {0}
+
 abbrev pub HasFound : Result (Option FileRead) LogErr → Option (List ℕ) → Type 0
-HasFound (Ok None) file = file ≡ None
-HasFound (Ok (Some read)) file = file ≡ Some read.bytes
-HasFound (Err (Bad name at)) file = (name ≡ latest) × IsNoLog at file
-HasFound (Err TooLong) file = ⊥
-HasFound (Err (File name)) file = Unit {0}
-HasFound (Err Memory) file = Unit {0}
+HasFound = HasFoundAt latest
 
 -- the file is as it was read
 abbrev pub IsAsRead : Option FileRead → Option (List ℕ) → Type 0

@@ -1,4 +1,4 @@
-//! The log's file as it was read.
+//! A log's file as it was read.
 
 ghost use Rattle.std.specs.Prelude.{◌≡◌, ◌<◌, ◌+◌, ◌^◌, ℕ, List, length, take, slice_get, [], false, Some, IsTrue, IfOk, IfSome, IsErrOf, MatchOption};
 ghost use Rattle.file_trait.specs.DiskModel.{reads};
@@ -7,18 +7,18 @@ ghost use Rattle.disk_logs.specs.Logs.{IsRead};
 ghost use Rattle.log_items.specs.Items.{wire};
 ghost use Rattle.db_model.specs.View.{commit_record};
 ghost use Rattle.txn_log.specs.Commits.{IsCommit, IsNoCommit, AreItemsOf};
-ghost use Rattle.txn_log.specs.Logs.{latest as latest_name, HasFound, LacksHead};
+ghost use Rattle.txn_log.specs.Logs.{latest as latest_name, previous as previous_name, HasFound, HasFoundAt, LacksHead};
 
 use crate::commit_items::decode_commit;
 use crate::heads::is_head;
-use crate::names::latest;
+use crate::names::{latest, previous};
 use db_model::Commit;
 use disk_logs::{LogErr, LogFile};
-use file_trait::Disk;
+use file_trait::{Disk, FileName};
 use std::alloc::{AllocError, Global};
 use std::marker::Model;
 
-/// `LATEST.LOG` as it was read. Its first item is a log's; behind that stand the items that are to be commits.
+/// `LATEST.LOG` or `PREVIOUS.LOG` as it was read. Its first item is a log's; behind that stand the items that are to be commits.
 #[derive(Drop)]
 pub struct CommitFile {
     file: LogFile,
@@ -50,16 +50,22 @@ impl CommitFile {
         ensures cause { LogCause (D.faults disk.old) (D.faults disk.new) (D.blamed disk.new) result }
         ensures named { (name : List ℕ) → IsErrOf result (LogErr.File name) → name ≡ latest_name }
     {
-        let file = match LogFile::read(alloc, disk, latest()) {
-            Ok(Some(file)) => file,
-            Ok(None) => return Ok(None),
-            Err(error) => return Err(error),
-        };
-        if has_head(alloc, &file)? {
-            Ok(Some(CommitFile { file }))
-        } else {
-            Err(LogErr::Bad(latest(), 8))
-        }
+        read_log(alloc, disk, latest())
+    }
+
+    /// Reads `PREVIOUS.LOG` in the same way.
+    pub fn read_previous<D: Disk>(alloc: Global, disk: &mut D) -> Result<Option<CommitFile>, LogErr>
+        ensures read { IsTrue D.tells → HasFoundAt previous_name result (reads (D.past disk.old) previous_name) }
+        ensures whole { IfOk result (λ found. IfSome found IsRead) }
+        ensures head { IfOk result (λ found. IfSome found (λ file. AreItemsOf [] (take 1 file.items))) }
+        ensures bad { (name : List ℕ) (at : ℕ) → IsErrOf result (LogErr.Bad name at) → name ≡ previous_name }
+        ensures never { IsErrOf result LogErr.TooLong → ⊥ }
+        ensures same { IsTrue D.tells → D.past disk.new ≡ D.past disk.old }
+        ensures time { D.moment disk.new ≡ D.moment disk.old }
+        ensures cause { LogCause (D.faults disk.old) (D.faults disk.new) (D.blamed disk.new) result }
+        ensures named { (name : List ℕ) → IsErrOf result (LogErr.File name) → name ≡ previous_name }
+    {
+        read_log(alloc, disk, previous())
     }
 
     /// How many items stand behind the first.
@@ -95,6 +101,34 @@ impl CommitFile {
         ensures whole { IsRead result.now }
     {
         &self.file
+    }
+}
+
+// Reads the log of this name, none where it is not there.
+fn read_log<D: Disk>(
+    alloc: Global,
+    disk: &mut D,
+    name: FileName,
+) -> Result<Option<CommitFile>, LogErr>
+    ensures read { IsTrue D.tells → HasFoundAt name result (reads (D.past disk.old) name) }
+    ensures whole { IfOk result (λ found. IfSome found IsRead) }
+    ensures head { IfOk result (λ found. IfSome found (λ file. AreItemsOf [] (take 1 file.items))) }
+    ensures bad { (other : List ℕ) (at : ℕ) → IsErrOf result (LogErr.Bad other at) → other ≡ name }
+    ensures never { IsErrOf result LogErr.TooLong → ⊥ }
+    ensures same { IsTrue D.tells → D.past disk.new ≡ D.past disk.old }
+    ensures time { D.moment disk.new ≡ D.moment disk.old }
+    ensures cause { LogCause (D.faults disk.old) (D.faults disk.new) (D.blamed disk.new) result }
+    ensures named { (other : List ℕ) → IsErrOf result (LogErr.File other) → other ≡ name }
+{
+    let file = match LogFile::read(alloc, disk, name) {
+        Ok(Some(file)) => file,
+        Ok(None) => return Ok(None),
+        Err(error) => return Err(error),
+    };
+    if has_head(alloc, &file)? {
+        Ok(Some(CommitFile { file }))
+    } else {
+        Err(LogErr::Bad(name, 8))
     }
 }
 

@@ -1,6 +1,6 @@
 //! What contents and files say.
 
-ghost use Rattle.std.specs.Prelude.{◌≡◌, ◌≢◌, ◌⊎◌, List, length, ℕ, true, Option, None, Some};
+ghost use Rattle.std.specs.Prelude.{◌≡◌, ◌≢◌, ◌⊎◌, ◌≤◌, ◌++◌, List, length, take, ℕ, true, Option, None, Some};
 ghost use Rattle.file_trait.specs.DiskModel.{Past, reads, Crashes, IsSettled};
 ghost use Rattle.file_trait.specs.Moments.{Moments};
 ghost use Rattle.file_trait.specs.Touched.{Touches};
@@ -51,6 +51,11 @@ pub fn logs_law()
         → TwoLogs (commits_of before) after (length after) (reads past) }
     ensures sound { (past : Past) (log : LogState) (before : Option (List CommitRecord)) (after : List CommitRecord)
         (synced : ℕ) → LogsStand past log before after synced → AreSound past }
+
+    // Each of the two files is read as one list of commits, and so are both together.
+    ensures one { (before after one two : List CommitRecord) (least : ℕ) (files : List ℕ → Option (List ℕ))
+        → TwoLogs before after least files → Reads one (files previous) → Reads two (files latest)
+        → (n : ℕ) × (least ≤ n) × (n ≤ length after) × (one ++ two ≡ before ++ take n after) }
 
     // They stand so at each moment while another file is worked on, and PREVIOUS.LOG also while LATEST.LOG is.
     ensures kept { (other : List ℕ) (log : LogState) (before : Option (List CommitRecord)) (after : List CommitRecord)

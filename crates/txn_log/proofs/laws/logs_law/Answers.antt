@@ -1,6 +1,6 @@
 use Rattle.disk_logs.proofs.Resting.{absent_gone}
 use Rattle.txn_log.specs.Logs.{previous}
-use Rattle.txn_log.proofs.TwoLogs.{logs_leave, logs_read, logs_sound, logs_other, previous_beside, previous_trusted, beside_moments}
+use Rattle.txn_log.proofs.TwoLogs.{logs_leave, logs_read, logs_sound, logs_other, previous_beside, previous_trusted, beside_moments, one_list_of_two}
 use Rattle.txn_log.proofs.laws.logs_law.Goals as goal
 
 pub returns-clause-leaves : goal.returns-clause-leaves
@@ -11,6 +11,9 @@ returns-clause-reads c = logs_read
 
 pub returns-clause-sound : goal.returns-clause-sound
 returns-clause-sound c = logs_sound
+
+pub returns-clause-one : goal.returns-clause-one
+returns-clause-one c = one_list_of_two
 
 pub returns-clause-kept : goal.returns-clause-kept
 returns-clause-kept c = logs_other
