@@ -13,10 +13,10 @@ use Rattle.disk_logs.specs.Crash.{IsSound}
 use Rattle.db_model.specs.Commits.{CommitRecord}
 use Rattle.disk_logs.specs.Calls.{LogCalls}
 use Rattle.log_items.specs.Items.{log_bytes}
-use Rattle.disk_logs.specs.Logs.{Handle, file_of, IsLog, HasMarked}
+use Rattle.disk_logs.specs.Logs.{Handle, file_of, with_mark, IsLog, HasMarked}
 use Rattle.disk_logs.specs.declared.error.LogErr.{LogErr}
 use Rattle.disk_logs.specs.declared.error.LogErr.TheVariants.{Memory}
-use Rattle.txn_log.specs.Logs.{latest, LogState, at_previous, handle, Reads, TxnStands, Leaves}
+use Rattle.txn_log.specs.Logs.{latest, LogState, at_latest, at_previous, handle, Reads, TxnStands, Leaves}
 use Rattle.txn_log.specs.TwoLogs.{TwoLogs, AreSound, LogWaits, LogsStand, commits_of}
 use Rattle.txn_log.proofs.Acts.{on_ok, any_ok, touches_latest, touches_log, held_at, made_handle, waits_handle, close_logs}
 use Rattle.txn_log.proofs.TwoLogs.{latest_reads, logs_leave, logs_read, logs_sound, beside_moments, beside_sound, beside_stands, beside_reads}
@@ -81,6 +81,29 @@ close_wanted r old new log now was commits waits same is nothing here wanted kep
   | inr made ↦
       subst (IsLog new) (sym (made_handle (state_of commits waits now) (same ∙ made)))
       (close_logs r old new log now was (held_at was is made) (subst (IsLog old) (made_handle was made) here) wanted kept given)
+]
+
+-- one that was done leaves it too
+marked_log : (r : Result Unit LogErr) (new : Past) (log now : Handle) (was : LogState) (all : List (List ℕ)) → log ≡ at_latest was
+    → OnOk r (now ≡ with_mark true log) → HasMarked r log.closed true all (reads new (file_of log))
+    → OnOk r ((all : List (List ℕ)) × (reads new latest ≡ Some (log_bytes now.closed all)))
+marked_log (Ok done) new log now was all is marked has =
+    (all, ap (reads new) (sym (ap file_of is)) ∙ has ∙ ap (λ (l : Handle). Some (log_bytes l.closed all)) (sym marked))
+marked_log (Err error) new log now was all is marked has = tt
+
+pub close_log : (r : Result Unit LogErr) (old new : Past) (log now : Handle) (was : LogState) (commits : ℕ) (waits : Bool)
+    → waits ≡ was.waits → log ≡ handle was → (was.waits ≡ true → (new ≡ old) × (state_of commits waits now ≡ was))
+    → IsLog old (handle was) → OnOk r (now ≡ with_mark true log)
+    → ((all : List (List ℕ)) → reads old (file_of log) ≡ Some (log_bytes log.closed all)
+    → HasMarked r log.closed true all (reads new (file_of log))) → OnOk r (IsLog new (handle (state_of commits waits now)))
+close_log r old new log now was commits waits same is nothing here marked given = elim (cases_Bool was.waits) [
+  | inl waiting ↦
+      any_ok r (subst (λ (l : LogState). IsLog new (handle l)) (sym (nothing waiting).1)
+      (subst (λ past. IsLog past (handle was)) (sym (nothing waiting).0) here))
+  | inr made ↦
+      let (all, reads_so) = subst (IsLog old) (sym is) here in
+      subst (λ l. OnOk r (IsLog new l)) (sym (made_handle (state_of commits waits now) (same ∙ made)))
+      (marked_log r new log now was all (held_at was is made) marked (given all reads_so))
 ]
 
 -- a log that is read as it was

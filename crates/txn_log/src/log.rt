@@ -220,6 +220,7 @@ impl TxnLog {
     pub fn close<D: Disk>(&mut self, disk: &mut D) -> Result<(), LogErr>
         requires { IsTrue D.tells → IsLog (D.past disk.old) (handle self.old) }
         ensures nothing { self.old.closed ≡ true → (result ≡ Ok tt) × (disk.new ≡ disk.old) }
+        ensures log { IsTrue D.tells → OnOk result (IsLog (D.past disk.new) (handle self.new)) }
         ensures wanted { IsTrue D.tells → IsErrOf result LogErr.Memory → IsLog (D.past disk.new) (handle self.new) }
         ensures commits { self.new.commits ≡ self.old.commits }
         ensures same { self.new.waits ≡ self.old.waits }

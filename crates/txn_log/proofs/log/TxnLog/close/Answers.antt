@@ -3,7 +3,7 @@ use Rattle.disk_logs.specs.Errors.{OnlyFileOrMemory}
 use Rattle.disk_logs.specs.Logs.{Handle, with_mark}
 use Rattle.txn_log.specs.Logs.{LogState, handle}
 use Rattle.txn_log.proofs.Acts.{on_ok, held_at, handle_marked, handle_same, same_moments, log_sound, log_durable, close_fails, kept_stands, when_synced}
-use Rattle.txn_log.proofs.Held.{waits_closed, latest_calls, same_state, state_of, close_wanted, either_reads, call_moments, call_sound, call_reads, call_kept, call_synced}
+use Rattle.txn_log.proofs.Held.{waits_closed, latest_calls, same_state, state_of, close_wanted, close_log, either_reads, call_moments, call_sound, call_reads, call_kept, call_synced}
 use Rattle.txn_log.proofs.log.TxnLog.close.Given.{Over}
 use Rattle.txn_log.proofs.log.TxnLog.close.Goals as goal
 
@@ -81,6 +81,13 @@ untouched g c waits =
       same_state c.self.inside.commits c.self.inside.waits c.self.inside.log c.close.new.self c.args.self.now
           (ap (λ (l : Handle). l.closed) marked ∙ sym closed) c.self.view_is,
     )
+
+pub returns-clause-log : goal.returns-clause-log
+returns-clause-log g c told =
+    close_log c.close.result (g.D.Disk.past c.args.disk.now) (g.D.Disk.past c.close.new.disk) c.self.inside.log c.close.new.self
+    c.args.self.now c.self.inside.commits c.self.inside.waits (ap (λ (l : LogState). l.waits) c.self.view_is)
+    (c.self.invariant ∙ ap handle c.self.view_is) (untouched g c) (c.requires told) c.close.ensures.log
+    (λ all. c.close.ensures.closed all told)
 
 pub returns-clause-logs_stand : goal.returns-clause-logs_stand
 returns-clause-logs_stand g c before after synced told logs =
