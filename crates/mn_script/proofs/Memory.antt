@@ -12,7 +12,7 @@ use Rattle.mn_script.specs.declared.forms.Form.{Form}
 use Rattle.mn_script.specs.declared.forms.Kind.{Kind}
 use Rattle.mn_script.specs.Forms.{Shape, shape_of, may_begin}
 use Rattle.mn_script.specs.Grammar.{IsBefore, HasArgument}
-use Rattle.mn_script.specs.Inside.Parts.{BeginsFirst, BeginsForm, BeginsNext, BeginsSome}
+use Rattle.mn_script.specs.Inside.Parts.{BeginsFirst, BeginsFormed, BeginsNext, BeginsSome}
 use Rattle.mn_script.proofs.Tables.{next_err, all_read, left_least}
 use Rattle.mn_script.specs.Reading.{◌>>=◌, text_at, behind_blanks, field_at, fitting, argument_at}
 
@@ -53,13 +53,13 @@ first_begins i (kind ∷ kinds) k line rest lt (inl (first, same)) next =
 
 -- ---- a form
 
-pub form_begins : (i : ℕ) (forms : List Form) (form : Form) (line : List ℕ) → i < length forms
-    → BeginsForm (shape_of (get_or forms i form)) line → BeginsSome (map shape_of forms) line
-form_begins i forms form line lt begin =
+pub form_begins : (i : ℕ) (forms : List Form) (form : Form) (line rest : List ℕ) → i < length forms
+    → rest ≡ unblanked line → BeginsFormed (shape_of (get_or forms i form)) rest → BeginsSome (map shape_of forms) line
+form_begins i forms form line rest lt behind begin =
     let here : slice_get (map shape_of forms) i ≡ Some (shape_of (get_or forms i form)) =
     slice_get-map shape_of forms i ∙ ap (option_map shape_of) (slice_get-get_or forms i form lt)
     in
-    (i, shape_of (get_or forms i form), here, begin)
+    (i, shape_of (get_or forms i form), here, subst (BeginsFormed (shape_of (get_or forms i form))) behind begin)
 
 -- a text that is found stands in front
 text_found : (text line rest : List ℕ) → text_at text line ≡ Ok rest → line ≡ text ++ rest

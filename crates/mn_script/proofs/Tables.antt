@@ -12,7 +12,7 @@ use Rattle.term_text.specs.Reading.{unblanked}
 use Rattle.mn_script.specs.declared.forms.Kind.{Kind}
 use Rattle.mn_script.specs.declared.forms.Form.{Form}
 use Rattle.mn_script.specs.Forms.{Shape, shape_of}
-use Rattle.mn_script.specs.Reading.{◌>>=◌, behind_blanks, at_end, argument_at, arguments_at, form_at, line_from, further}
+use Rattle.mn_script.specs.Reading.{◌>>=◌, behind_blanks, at_end, argument_at, arguments_at, formed_at, form_at, line_from, further}
 
 pub any_map : {X Y : Type 0} (p : Y → Bool) (f : X → Y) (xs : List X)
     → list_any p (map f xs) ≡ list_any (λ x. p (f x)) xs
@@ -67,22 +67,29 @@ pub some_form : (n left : ℕ) (form : Shape) (forms : List Shape) (line : List 
 unfolding line_from
 some_form n left form forms line = refl
 
-pub turn_ok : (i left : ℕ) (forms : List Form) (form : Form) (line : List ℕ) (ts : List Tree)
-    → i < length forms → form_at (shape_of (get_or forms i form)) line ≡ Ok ts
+-- a form reads behind the blanks in front
+formed : (form : Shape) (line rest : List ℕ) → rest ≡ unblanked line → form_at form line ≡ formed_at form rest
+unfolding form_at behind_blanks
+formed form line rest e = ap (formed_at form) (sym e)
+
+pub turn_ok : (i left : ℕ) (forms : List Form) (form : Form) (line rest : List ℕ) (ts : List Tree)
+    → i < length forms → rest ≡ unblanked line → formed_at (shape_of (get_or forms i form)) rest ≡ Ok ts
     → line_from i left (map shape_of (drop i forms)) line ≡ Ok (i, ts)
-turn_ok i left forms form line ts lt e =
+turn_ok i left forms form line rest ts lt behind e =
     rw (drop-cons forms i form)
     (some_form i left (shape_of (get_or forms i form)) (map shape_of (drop (suc i) forms)) line
-    ∙ ap (further i left (λ least. line_from (i + 1) least (map shape_of (drop (suc i) forms)) line)) e)
+    ∙ ap (further i left (λ least. line_from (i + 1) least (map shape_of (drop (suc i) forms)) line))
+    (formed (shape_of (get_or forms i form)) line rest behind ∙ e))
 
-pub turn_err : (i left other : ℕ) (forms : List Form) (form : Form) (line : List ℕ)
-    → i < length forms → form_at (shape_of (get_or forms i form)) line ≡ Err other
+pub turn_err : (i left other : ℕ) (forms : List Form) (form : Form) (line rest : List ℕ)
+    → i < length forms → rest ≡ unblanked line → formed_at (shape_of (get_or forms i form)) rest ≡ Err other
     → line_from i left (map shape_of (drop i forms)) line ≡ line_from (i + 1) (min left other)
     (map shape_of (drop (i + 1) forms)) line
-turn_err i left other forms form line lt e =
+turn_err i left other forms form line rest lt behind e =
     rw (add-one, drop-cons forms i form)
     (some_form i left (shape_of (get_or forms i form)) (map shape_of (drop (suc i) forms)) line
-    ∙ ap (further i left (λ least. line_from (i + 1) least (map shape_of (drop (suc i) forms)) line)) e
+    ∙ ap (further i left (λ least. line_from (i + 1) least (map shape_of (drop (suc i) forms)) line))
+    (formed (shape_of (get_or forms i form)) line rest behind ∙ e)
     ∙ ap (λ n. line_from n (min left other) (map shape_of (drop (suc i) forms)) line) (add-one i))
 
 pub all_tried : (i left : ℕ) (forms : List Form) (line : List ℕ) → length forms ≤ i

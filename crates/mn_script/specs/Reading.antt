@@ -65,9 +65,13 @@ arguments_at [] before = behind_blanks false (at_end before)
 arguments_at (k ∷ ks) before =
     behind_blanks true (λ line. argument_at k line >>= λ x. arguments_at ks (before ++ x.0 ∷ []) x.1)
 
+-- the arguments of a line of this form, without the blanks in front
+abbrev pub formed_at : Shape → List ℕ → Result (List Tree) ℕ
+formed_at form line = text_at form.word line >>= arguments_at form.kinds []
+
 -- the arguments of a line of this form
 unfoldable pub form_at : Shape → List ℕ → Result (List Tree) ℕ
-form_at form = behind_blanks false (λ line. text_at form.word line >>= arguments_at form.kinds [])
+form_at form = behind_blanks false (formed_at form)
 
 -- what a form reads, or what the others do, with the place of the one that got furthest
 abbrev pub further : ℕ → ℕ → (ℕ → Result (ℕ × List Tree) ℕ) → Result (List Tree) ℕ → Result (ℕ × List Tree) ℕ

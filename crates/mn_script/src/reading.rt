@@ -8,8 +8,8 @@ ghost use Rattle.term_text.specs.Grammar.{begins, is_blank, is_name_byte};
 ghost use Rattle.term_text.specs.Reading.{unblanked};
 ghost use Rattle.mn_script.specs.Forms.{shape_of, fits, is_file_name, is_name, may_begin};
 ghost use Rattle.mn_script.specs.Grammar.{HasArgument, bad, first_word, is_later};
-ghost use Rattle.mn_script.specs.Inside.Parts.{Gives, BeginsFirst, BeginsForm, BeginsNext, BeginsSome};
-ghost use Rattle.mn_script.specs.Reading.{Says, argument_at, arguments_at, at_end, behind_blanks, field_at, form_at, line_at, placed, said, text_at};
+ghost use Rattle.mn_script.specs.Inside.Parts.{Gives, BeginsFirst, BeginsFormed, BeginsNext, BeginsSome};
+ghost use Rattle.mn_script.specs.Reading.{Says, argument_at, arguments_at, at_end, behind_blanks, field_at, formed_at, line_at, placed, said, text_at};
 
 use crate::forms::{Form, Kind};
 use sqlite_items::Items;
@@ -119,9 +119,10 @@ fn read_forms(alloc: Global, forms: &[Form], line: &[u8]) -> Result<(usize, Item
     ensures part { Gives (λ x. (x.0, map tree_of x.1)) result (line_at (map shape_of forms.now) line.now) }
     ensures memory { result ≡ Err PartErr.Memory → BeginsSome (map shape_of forms.now) line.now }
 {
+    let rest = unblanked(line);
     let mut left = line.len();
     for (i, form) in forms.iter().enumerate() {
-        match read_form(alloc, form, line) {
+        match read_form(alloc, form, rest) {
             Ok(arguments) => return Ok((i, arguments)),
             Err(PartErr::Bad(other)) => left = left.min(other),
             Err(PartErr::Memory) => return Err(PartErr::Memory),
@@ -130,13 +131,12 @@ fn read_forms(alloc: Global, forms: &[Form], line: &[u8]) -> Result<(usize, Item
     Err(PartErr::Bad(left))
 }
 
-/// The arguments of a line of this form.
-#[tactic(auto, unfolding(crate::specs::Reading::form_at, crate::specs::Reading::behind_blanks))]
+/// The arguments of a line of this form, without the blanks in front.
 fn read_form(alloc: Global, form: &Form, line: &[u8]) -> Result<Items<Term>, PartErr>
-    ensures part { Gives (λ x. map tree_of x) result (form_at (shape_of form.now) line.now) }
-    ensures memory { result ≡ Err PartErr.Memory → BeginsForm (shape_of form.now) line.now }
+    ensures part { Gives (λ x. map tree_of x) result (formed_at (shape_of form.now) line.now) }
+    ensures memory { result ≡ Err PartErr.Memory → BeginsFormed (shape_of form.now) line.now }
 {
-    let rest = read_text(unblanked(line), form.word)?;
+    let rest = read_text(line, form.word)?;
     read_arguments(alloc, form.kinds, rest)
 }
 

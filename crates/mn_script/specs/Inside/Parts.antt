@@ -28,8 +28,12 @@ BeginsFirst [] line = ⊥
 BeginsFirst (kind ∷ kinds) line = BeginsNext kind line
 
 -- the same behind a form's word
+abbrev pub BeginsFormed : Shape → List ℕ → Type 0
+BeginsFormed form line = (rest : List ℕ) × (text_at form.word line ≡ Ok rest) × BeginsFirst form.kinds rest
+
+-- the same behind the blanks in front
 abbrev pub BeginsForm : Shape → List ℕ → Type 0
-BeginsForm form line = (rest : List ℕ) × (text_at form.word (unblanked line) ≡ Ok rest) × BeginsFirst form.kinds rest
+BeginsForm form line = BeginsFormed form (unblanked line)
 
 -- the same behind the word of one of these forms
 abbrev pub BeginsSome : List Shape → List ℕ → Type 0
