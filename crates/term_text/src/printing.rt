@@ -1,9 +1,9 @@
 //! The text of a term, written at the end of a vector.
 
-ghost use Rattle.std.specs.Prelude.{◌≡◌, ◌∷◌, ◌++◌, ◌<◌, ◌≤◌, [], length, codes, decimal, OnOk, OnErr, IfErr, false};
+ghost use Rattle.std.specs.Prelude.{◌≡◌, ◌∷◌, ◌++◌, ◌<◌, ◌≤◌, ℕ, List, [], length, codes, decimal, OnOk, OnErr, IfErr, false};
 ghost use Rattle.std.specs.Fmt.{digits, digit_glyph, signed_decimal};
-ghost use Rattle.std.specs.List.{flat_map, list_all};
-ghost use Rattle.std.specs.Str.{chars};
+ghost use Rattle.std.specs.List.{flat_map, list_all, list_any};
+ghost use Rattle.std.specs.Str.{bytes_eq, chars};
 ghost use Rattle.term_core.specs.Tree.{int, atom, bin};
 ghost use Rattle.term_core.specs.View.{tree_of, forest_of};
 ghost use Rattle.term_text.specs.Appends.{Appends};
@@ -18,13 +18,6 @@ use crate::tokens::is_name_byte;
 use itoa::Buffer;
 use std::alloc::AllocError;
 use term_core::{Atom, Term};
-
-/// The words that Erlang keeps for itself.
-const RESERVED: [&[u8]; 28] = [
-    b"after", b"and", b"andalso", b"band", b"begin", b"bnot", b"bor", b"bsl", b"bsr", b"bxor",
-    b"case", b"catch", b"cond", b"div", b"end", b"fun", b"if", b"let", b"maybe", b"not", b"of",
-    b"or", b"orelse", b"receive", b"rem", b"try", b"when", b"xor",
-];
 
 /// Adds the text of a term at the end of `out`. An error leaves `out` as it was.
 #[tactic(auto, using(crate::proofs::PrintedTexts::printed_is))]
@@ -222,5 +215,33 @@ fn are_name_bytes(bytes: &[u8]) -> bool
 fn is_reserved(name: &[u8]) -> bool
     ensures { result ≡ text.is_reserved name.now }
 {
-    RESERVED.contains(&name)
+    match name {
+        [first, ..] => reserved_from(*first).contains(&name),
+        [] => false,
+    }
+}
+
+/// The words that Erlang keeps for itself and that begin with this byte.
+fn reserved_from(first: u8) -> &'static [&'static [u8]]
+    ensures { (others : List ℕ)
+        → list_any (λ word. bytes_eq word.now (first ∷ others)) result.now ≡ text.is_reserved (first ∷ others) }
+{
+    match first {
+        b'a' => &[b"after", b"and", b"andalso"],
+        b'b' => &[b"band", b"begin", b"bnot", b"bor", b"bsl", b"bsr", b"bxor"],
+        b'c' => &[b"case", b"catch", b"cond"],
+        b'd' => &[b"div"],
+        b'e' => &[b"end"],
+        b'f' => &[b"fun"],
+        b'i' => &[b"if"],
+        b'l' => &[b"let"],
+        b'm' => &[b"maybe"],
+        b'n' => &[b"not"],
+        b'o' => &[b"of", b"or", b"orelse"],
+        b'r' => &[b"receive", b"rem"],
+        b't' => &[b"try"],
+        b'w' => &[b"when"],
+        b'x' => &[b"xor"],
+        _ => &[],
+    }
 }
