@@ -12,6 +12,7 @@ use Rattle.disk_logs.specs.declared.error.LogErr.TheVariants.{File, Bad, TooLong
 use Rattle.disk_logs.specs.Calls.{LogCalls}
 use Rattle.disk_logs.specs.Errors.{told, OnlyFile, OnlyFileOrMemory, LogCause}
 use Rattle.disk_logs.proofs.Publishing.{same_error, same_cause}
+use Rattle.disk_logs.proofs.Renewing.{touches_more}
 
 -- ---- which errors there are
 
@@ -128,6 +129,18 @@ at_most g old new Own P t calls = record {
   time = calls.time;
   named = calls.named;
   only = λ p. calls.only;
+  cause = calls.cause;
+}
+
+-- a call owes the same of more names
+pub wider_calls : {D T : Type 0} {Own : List ℕ → Type 0} {Only : Result T LogErr → Type 0} (g : Ghosts D) (old new : D)
+    (Wide : List ℕ → Type 0) (Any : Result T LogErr → Type 0) (r : Result T LogErr) → ((name : List ℕ) → Own name → Wide name)
+    → (Only r → Any r) → LogCalls g old new Own Only r → LogCalls g old new Wide Any r
+wider_calls {Own = Own} g old new Wide Any r wider only calls = record {
+  touches = λ told. touches_more Own Wide _ _ wider (calls.touches told);
+  time = calls.time;
+  named = λ name failed. wider name (calls.named name failed);
+  only = only calls.only;
   cause = calls.cause;
 }
 

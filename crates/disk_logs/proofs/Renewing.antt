@@ -59,7 +59,7 @@ all_more N M more (op ∷ ops) all = (one op all.0, all_more N M more ops all.1)
     one (sync_failed name) h = more name h
     one sync_dir h = tt
 
-touches_more : (N M : List ℕ → Type 0) (old new : Past) → ((n : List ℕ) → N n → M n) → Touches N old new → Touches M old new
+pub touches_more : (N M : List ℕ → Type 0) (old new : Past) → ((n : List ℕ) → N n → M n) → Touches N old new → Touches M old new
 touches_more N M old new more t = record { ops = t.ops; grown = t.grown; all = all_more N M more t.ops t.all }
 
 -- ---- while only the draft is touched

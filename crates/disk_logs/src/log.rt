@@ -137,6 +137,9 @@ impl Log {
         // Where memory was wanting it leaves only old ones.
         ensures only_old { (all : List (List ℕ)) (synced : ℕ) → IsTrue D.tells → Stands (D.past disk.old) self.old all synced
             → IsErrOf result LogErr.Memory → Moments (LogLeaves self.old.name all synced) (D.past disk.old) (D.past disk.new) }
+        // To a draft nothing was done then.
+        ensures undone { IsTrue D.tells → IsTrue self.old.draft → IsErrOf result LogErr.Memory
+            → D.past disk.new ≡ D.past disk.old }
         // While it is written each closed log of the name stays sound, and a draft stays one.
         ensures sound { (all : List (List ℕ)) (synced : ℕ) → IsTrue D.tells → Stands (D.past disk.old) self.old all synced
             → Moments (λ past. IsSound past self.old.name) (D.past disk.old) (D.past disk.new) }

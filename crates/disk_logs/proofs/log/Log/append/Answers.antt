@@ -3,7 +3,7 @@ use Rattle.std.proofs.lemmas.Result.{err_from_is_err_and}
 use Rattle.file_trait.proofs.Touched.{append_touches}
 use Rattle.disk_logs.specs.Logs.{Handle, file_of}
 use Rattle.disk_logs.proofs.Appends.{appended, not_opened}
-use Rattle.disk_logs.proofs.Handles.{leaves_of, sound_of, more_of, wanted_kept, wanted_moments, appends_stands, appends_moments}
+use Rattle.disk_logs.proofs.Handles.{leaves_of, sound_of, more_of, wanted_same, wanted_kept, wanted_moments, appends_stands, appends_moments}
 use Rattle.disk_logs.proofs.Handles.{appends_drafted}
 use Rattle.disk_logs.specs.Calls.{LogCalls}
 use Rattle.disk_logs.specs.Errors.{OnlyFileOrMemory}
@@ -62,6 +62,13 @@ returns-clause-sound g c all synced told stands =
     (appends_moments _ _ c.args.self.now c.open.new.self all c.requires.items.0 synced _ _ _
     (c.self.invariant ∙ ap file_of c.self.view_is) c.requires.items.2 c.requires.items.1 c.in_ok-open.ensures.log
     (c.in_ok-open.ensures.stands all synced told stands) (c.append.ensures.done told) _ (c.open.ensures.any_moment all synced told stands))
+
+pub returns-in_err-open-clause-undone : goal.returns-in_err-open-clause-undone
+returns-in_err-open-clause-undone g c told drafted wanted = c.open.ensures.same told (inl drafted)
+
+pub returns-clause-undone : goal.returns-clause-undone
+returns-clause-undone g c told drafted wanted =
+    wanted_same _ _ _ _ _ _ c.told.ensures wanted (c.append.ensures.done told) ∙ c.open.ensures.same told (inl drafted)
 
 pub returns-clause-drafted : goal.returns-clause-drafted
 returns-clause-drafted g c all more told drafted is draft =
