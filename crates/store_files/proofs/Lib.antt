@@ -1,0 +1,15 @@
+pub mod Adding
+pub mod Definitions
+pub mod Drafting
+pub mod FileNames
+pub mod FirstItems
+pub mod FormItems
+pub mod Increasing
+pub mod OneFile
+pub mod PairFacts
+pub mod PairNames
+pub mod Replacing
+pub mod SchemaRead
+pub mod Swapping
+pub mod Taking
+pub mod TermTexts
