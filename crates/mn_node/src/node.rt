@@ -135,7 +135,7 @@ impl Node {
     {
         let tried = match &mut self.state {
             State::Up(live) => live.attempt(alloc, disk, command),
-            _ => return Reply::Down,
+            _ => return refused(command),
         };
         match tried {
             Ok(done) => self.settle(done),
@@ -158,6 +158,7 @@ impl Node {
     }
 
     /// What was done counts.
+    #[inline(never)]
     fn settle(&mut self, done: Done) -> Reply
         requires few { self.old.entries < 2 ^ 62 }
         ensures reply { result ≡ done.reply }
@@ -176,6 +177,7 @@ impl Node {
     }
 
     /// Memory or a file failed.
+    #[inline(never)]
     fn fail(&mut self, trouble: Trouble) -> Reply
         requires few { self.old.entries < 2 ^ 62 }
         ensures reply { seen.answer result ≡ failed_answer trouble }
@@ -192,4 +194,12 @@ impl Node {
             }
         }
     }
+}
+
+/// What a node that is down answers. The command is dropped here, so that one which is tried takes no room for that.
+#[inline(never)]
+fn refused(_command: Command) -> Reply
+    ensures { result ≡ Reply.Down }
+{
+    Reply::Down
 }

@@ -1,7 +1,6 @@
 pub mod Ends
 pub mod Parts
 pub mod Passing
-pub mod Refusals
 pub mod Requests
 pub mod RunActs
 pub mod RunBroken

@@ -1,6 +1,6 @@
 //! The commands of a script.
 
-ghost use Rattle.std.specs.Prelude.{◌≡◌, ◌≢◌, ℕ, List, [], map, true};
+ghost use Rattle.std.specs.Prelude.{◌≡◌, ◌≢◌, ◌≤◌, ℕ, List, [], map, true};
 ghost use Rattle.std.specs.Option.{option_map};
 ghost use Rattle.term_core.specs.View.{tree_of};
 ghost use Rattle.mn_script.specs.Forms.{shape_of, is_table};
@@ -175,6 +175,9 @@ pub fn command_laws()
 {}
 
 /// The command of the form of this number. There is none where the form has other arguments.
+///
+/// Forms with the same kinds of arguments are told apart in a function of their own, since a function makes room for
+/// all of its arms, whichever of them is taken.
 fn command_of(number: usize, arguments: Items<Term>) -> Option<Command>
     ensures { option_map seen result ≡ commands.made number (map tree_of arguments) }
 {
@@ -182,13 +185,38 @@ fn command_of(number: usize, arguments: Items<Term>) -> Option<Command>
         0 => no_argument(&arguments).map(|()| Command::Start),
         1 => no_argument(&arguments).map(|()| Command::Stop),
         2 => no_argument(&arguments).map(|()| Command::SyncLog),
-        3 => atom_and_term(arguments).map(|(table, record)| Command::Put(table, record)),
-        4 => atom_and_term(arguments).map(|(table, key)| Command::Get(table, key)),
-        5 => atom_and_term(arguments).map(|(name, options)| Command::CreateTable(name, options)),
+        3..=5 => of_atom_and_term(number, arguments),
         6 => one_atom(arguments).map(Command::DeleteTable),
         7 => no_argument(&arguments).map(|()| Command::Tables),
         8 => one_atom(arguments).map(Command::TableInfo),
         9 => one_atom(arguments).map(Command::Begin),
+        10..=14 => of_two_atoms_and_term(number, arguments),
+        15 => two_atoms(arguments).map(|(name, table)| Command::AllKeys(name, table)),
+        16 => one_atom(arguments).map(Command::Commit),
+        17 => one_atom(arguments).map(Command::Abort),
+        _ => None,
+    }
+}
+
+/// The same where an atom and a term are due.
+fn of_atom_and_term(number: usize, arguments: Items<Term>) -> Option<Command>
+    requires { (3 ≤ number) × (number ≤ 5) }
+    ensures { option_map seen result ≡ commands.made number (map tree_of arguments) }
+{
+    match number {
+        3 => atom_and_term(arguments).map(|(table, record)| Command::Put(table, record)),
+        4 => atom_and_term(arguments).map(|(table, key)| Command::Get(table, key)),
+        5 => atom_and_term(arguments).map(|(name, options)| Command::CreateTable(name, options)),
+        _ => unreachable!(),
+    }
+}
+
+/// The same where two atoms and a term are due.
+fn of_two_atoms_and_term(number: usize, arguments: Items<Term>) -> Option<Command>
+    requires { (10 ≤ number) × (number ≤ 14) }
+    ensures { option_map seen result ≡ commands.made number (map tree_of arguments) }
+{
+    match number {
         10 => two_atoms_and_term(arguments).map(|(name, table, record)| Command::Write(
             name, table, record,
         )),
@@ -204,10 +232,7 @@ fn command_of(number: usize, arguments: Items<Term>) -> Option<Command>
         14 => two_atoms_and_term(arguments).map(|(name, table, pattern)| Command::MatchObject(
             name, table, pattern,
         )),
-        15 => two_atoms(arguments).map(|(name, table)| Command::AllKeys(name, table)),
-        16 => one_atom(arguments).map(Command::Commit),
-        17 => one_atom(arguments).map(Command::Abort),
-        _ => None,
+        _ => unreachable!(),
     }
 }
 

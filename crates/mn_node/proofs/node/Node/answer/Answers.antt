@@ -1,6 +1,6 @@
-use Rattle.std.proofs.Common.{Ok, Err, refl, ap}
+use Rattle.std.proofs.Common.{◌≡◌, Ok, Err, refl, sym, ap, ◌∙◌}
 use Rattle.mn_node.specs.Inside.Tries.{durable, failed_answer}
-use Rattle.mn_node.specs.Effects.{is_down, pending_after}
+use Rattle.mn_node.specs.Effects.{is_down, is_fault, no_memory, pending_after}
 use Rattle.mn_node.specs.Machine.{command}
 use Rattle.mn_node.specs.Seen as seen
 use Rattle.mn_node.proofs.NodeOwes.{failed_owes, same_owes}
@@ -12,11 +12,15 @@ returns-in_default g c =
     let past = g.D.Disk.past c.args.disk.now in
     let node = c.args.self.now in
     let asked = seen.asked c.args.command in
+    let given = seen.answer c.refused.result in
+    let down : given ≡ is_down = ap seen.answer c.refused.ensures in
     record {
-      steps = λ told first old shown. down_steps first past node old c.requires.whole c.in_default.not-Up shown asked;
-      owes = same_owes g.D.Disk.tells _ (g.D.Disk.blamed c.args.disk.now) past node is_down refl c.requires.whole c.requires.log;
-      down = (λ is. not_up node.state c.in_default.not-Up, λ off. refl);
-      sync = λ is wanted. absurd (cc wanted);
+      steps = λ told first old shown. steps_at first past past old (command asked) given is_down node node node down refl
+          (down_steps first past node old c.requires.whole c.in_default.not-Up shown asked);
+      owes = same_owes g.D.Disk.tells _ (g.D.Disk.blamed c.args.disk.now) past node given (ap is_fault down) c.requires.whole
+          c.requires.log;
+      down = (λ is. not_up node.state c.in_default.not-Up, λ off. down);
+      sync = λ is wanted. let wrong : is_down ≡ no_memory = sym down ∙ wanted in absurd (cc wrong);
     }
 
 pub returns-in-Ok-clause-steps : goal.returns-in-Ok-clause-steps
