@@ -1,6 +1,29 @@
 """The program on a directory, for scripts that ask it many lines and measure."""
 import os, subprocess, sys, threading, time
 
+REFUSED = (b"{aborted", b"{badarg", b"{error")
+
+
+def whole_run(program, directory, lines):
+    """How many seconds a run takes over the lines of a file, with its start and its stop. The directory is made where it is not there, and no
+    line is to be refused."""
+    os.makedirs(directory, exist_ok=True)
+    script, replies = f"{directory}.script", f"{directory}.replies"
+    with open(script, "w") as file:
+        file.writelines(f"{line}\n" for line in lines)
+    with open(script) as source, open(replies, "w") as out:
+        start = time.perf_counter()
+        run = subprocess.run([program, directory], stdin=source, stdout=out)
+        seconds = time.perf_counter() - start
+    with open(replies, "rb") as file:
+        answered = 0
+        for answered, reply in enumerate(file, 1):
+            if reply.startswith(REFUSED):
+                sys.exit(f"a line was answered {reply}")
+    if run.returncode != 0 or answered < len(lines):
+        sys.exit(f"the run ended with status {run.returncode} and {answered} replies to {len(lines)} lines")
+    return seconds
+
 
 class Node:
     """A run of the program, and how many seconds its start took. The directory is made where it is not there."""
@@ -32,7 +55,7 @@ class Node:
         """How many seconds the lines take, none of which is to be refused."""
         replies, seconds = self.ask(lines)
         for line, reply in zip(lines, replies):
-            if not reply or reply.startswith((b"{aborted", b"{badarg", b"{error")):
+            if not reply or reply.startswith(REFUSED):
                 sys.exit(f"{line} was answered {reply}")
         return seconds
 

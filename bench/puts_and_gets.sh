@@ -5,36 +5,23 @@
 needs python3
 built
 
-python3 - "$here/../mnesia_cli" "$dir" "${1:-200000}" <<'PY'
-import os, subprocess, sys, time
+PYTHONPATH=$here python3 -B - "$here/../mnesia_cli" "$dir" "${1:-200000}" <<'PY'
+import os, sys, time
+from node import whole_run
 
 program, dir, count = sys.argv[1], sys.argv[2], int(sys.argv[3])
 
 
 def seconds(name, lines):
-    """How long the program takes for these lines, on a directory of this name."""
-    script = os.path.join(dir, "script")
-    replies = os.path.join(dir, "replies")
-    os.makedirs(os.path.join(dir, name), exist_ok=True)
-    with open(script, "w") as file:
-        file.writelines(lines)
-    with open(script) as source, open(replies, "w") as out:
-        start = time.perf_counter()
-        run = subprocess.run([program, os.path.join(dir, name)], stdin=source, stdout=out)
-        taken = time.perf_counter() - start
-    with open(replies) as file:
-        answered = sum(1 for _ in file)
-    if run.returncode != 0 or answered < len(lines):
-        sys.exit(f"the run ended with status {run.returncode} and {answered} replies to {len(lines)} commands")
-    return taken
+    return whole_run(program, os.path.join(dir, name), lines)
 
 
 def puts(count, keys):
-    return ["create_table t []\n"] + [f"put t {{t,{n % keys},{n}}}\n" for n in range(count)]
+    return ["create_table t []"] + [f"put t {{t,{n % keys},{n}}}" for n in range(count)]
 
 
 def gets(count, keys):
-    return [f"get t {n % keys}\n" for n in range(count)]
+    return [f"get t {n % keys}" for n in range(count)]
 
 
 file = os.open(os.path.join(dir, "appends"), os.O_WRONLY | os.O_CREAT | os.O_APPEND)

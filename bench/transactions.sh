@@ -1,8 +1,9 @@
 #!/bin/sh
-# Transactions of the program beside Mnesia's of one process, each on one node and one directory, with a disc_copies table: 20,000 of one
-# write and 2,000 of ten writes, over 1,000 keys. Then of the program alone: one transaction of 99,998 writes and reads beside as many
-# puts and gets, and reads that a lock bars, of a transaction with 999 calls and of one with a hundred times as many. The one word is a part of the
-# counts, as 100 for a hundredth of them.
+# Transactions of the program beside Mnesia's of one process, each on one node and one directory, with a disc_copies table: 100,000 of one
+# write and 10,000 of ten writes, over 1,000 keys. Then of the program alone: one transaction of 99,998 writes and reads beside as many
+# puts and gets, and reads that a lock bars, of a transaction with 999 calls and of one with a hundred times as many. The program's figures are
+# those of whole runs, with their start and their stop, but for the reads that are barred. The one word is a part of the counts, as 100 for a
+# hundredth of them.
 . "$(dirname -- "$0")/prepare.sh"
 needs python3 erl erlc
 built
@@ -36,14 +37,14 @@ cd "$dir" || exit 1
 erlc beside.erl || exit 1
 
 part=${1:-1}
-ones=$((20000 / part))
-tens=$((2000 / part))
+ones=$((100000 / part))
+tens=$((10000 / part))
 calls=$((99998 / part))
 seconds="$(erl -noinput -mnesia dir '"mnesia"' -s beside writes $ones $tens | sed -n 's/^seconds //p')"
 
 PYTHONPATH=$here python3 -B - "$here/../mnesia_cli" "$dir/own" $ones $tens $calls $seconds <<'PY'
 import os, sys
-from node import Node
+from node import Node, whole_run
 
 program, dir = sys.argv[1:3]
 ones, tens, calls = (int(word) for word in sys.argv[3:6])
@@ -61,25 +62,23 @@ def whole(name, count):
     return [line for n in range(count // 2) for line in [f"write {name} t {{t,{n},{n}}}", f"read {name} t {n}"]]
 
 
+def run(name, lines):
+    return whole_run(program, os.path.join(dir, name), ["create_table t []", *lines])
+
+
 def node_of(name):
     node = Node(program, os.path.join(dir, name))
     node.do(["create_table t []"])
     return node
 
 
-node = node_of("many")
-one = node.do([line for n in range(ones) for line in transaction("x", n, 1)])
-ten = node.do([line for n in range(tens) for line in transaction("x", n * 10, 10)])
-node.kill()
+one = run("ones", [line for n in range(ones) for line in transaction("x", n, 1)])
+ten = run("tens", [line for n in range(tens) for line in transaction("x", n * 10, 10)])
 for name, count, own, other in [("one write", ones, one, mnesia[0]), ("ten writes", tens, ten, mnesia[1])]:
     print(f"transactions of {name}: {count / own:,.0f} a second, Mnesia's: {count / other:,.0f}, ratio: {other / own:.1f}")
 
-node = node_of("single")
-single = node.do([line for n in range(calls // 2) for line in [f"put t {{t,{n},{n}}}", f"get t {n}"]])
-node.kill()
-node = node_of("whole")
-all = node.do(["begin x", *whole("x", calls), "commit x"])
-node.kill()
+single = run("single", [line for n in range(calls // 2) for line in [f"put t {{t,{n},{n}}}", f"get t {n}"]])
+all = run("whole", ["begin x", *whole("x", calls), "commit x"])
 print(f"one transaction of {calls:,} writes and reads: {all:.2f} seconds, as many single calls: {single:.2f}, ratio: {all / single:.2f}")
 
 barred = []
