@@ -1,0 +1,10 @@
+pub mod Cuts
+pub mod FileNames
+pub mod LogSteps
+pub mod OneImage
+pub mod Parts
+pub mod SaidImages
+pub mod SchemaSteps
+pub mod TableActs
+pub mod TableNames
+pub mod TableSteps

@@ -1,0 +1,15 @@
+use Rattle.log_dumper.proofs.LogSteps.{image_stands, image_means, image_now}
+use Rattle.log_dumper.proofs.SchemaSteps.{defined_whole}
+use Rattle.log_dumper.proofs.ordered.stands_law.Goals as goal
+
+pub returns-clause-on : goal.returns-clause-on
+returns-clause-on c first stored directory o of = image_stands first stored o directory of
+
+pub returns-clause-means : goal.returns-clause-means
+returns-clause-means c first stored directory o of = image_means first stored o directory of
+
+pub returns-clause-now : goal.returns-clause-now
+returns-clause-now c first stored directory o of all = image_now first stored o directory of all
+
+pub returns-clause-defined : goal.returns-clause-defined
+returns-clause-defined c = defined_whole

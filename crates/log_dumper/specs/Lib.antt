@@ -1,0 +1,4 @@
+pub mod Directory
+pub mod Stored
+pub mod Says
+pub mod Ordered
