@@ -1,3 +1,4 @@
+pub mod CarriedSteps
 pub mod Cuts
 pub mod FileNames
 pub mod LogSteps
@@ -5,6 +6,7 @@ pub mod OneImage
 pub mod Parts
 pub mod SaidImages
 pub mod SchemaSteps
+pub mod StaysCarried
 pub mod TableActs
 pub mod TableNames
 pub mod TableSteps

@@ -153,7 +153,7 @@ module _ (first : First) (d : Directory) (commit : CommitRecord) (h : StandsOn f
 
 -- ---- the schema file is written as the schema is behind the first commits
 
-left_up_to : (n : ℕ) (a b : List CommitRecord) → AllUpTo n (a ++ b) → AllUpTo n a
+pub left_up_to : (n : ℕ) (a b : List CommitRecord) → AllUpTo n (a ++ b) → AllUpTo n a
 left_up_to n [] b h = tt
 left_up_to n (x ∷ a) b h = (h.0, left_up_to n a b h.1)
 

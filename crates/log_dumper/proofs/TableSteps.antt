@@ -3,6 +3,7 @@ use Rattle.std.proofs.Common.{◌≡◌, ◌⊎◌, inl, inr, ℕ, ◌<◌, ◌�
 use Rattle.std.specs.List.{AllByRecursion}
 use Rattle.std.proofs.lemmas.Bool.{cases_lt, eq-eqb}
 use Rattle.std.proofs.lemmas.List.{take_all, take-append-le}
+use Rattle.term_core.specs.Tree.{Tree}
 use Rattle.db_model.specs.Database.{Contents, put_op}
 use Rattle.db_model.specs.Definitions.{Definition}
 use Rattle.db_model.specs.Ops.{Operation}
@@ -51,7 +52,7 @@ all_push P [] x h one = (one, tt)
 all_push P (y ∷ xs) x h one = (h.0, all_push P xs x h.1 one)
 
 module _ (first : First) (stored : Stored) (name : List ℕ) (o : IsOrdered first stored) where
-  abbrev was : StoredTable
+  abbrev pub was : StoredTable
   was = stored.tables name
 
   -- ---- a file of ops is begun, without any
@@ -166,19 +167,19 @@ module _ (first : First) (stored : Stored) (name : List ℕ) (o : IsOrdered firs
       (draft : IsDraft d.kind (has (contents_at d.kind d.cookie was)) (of_table name d.cookie stored.before)
       (of_table name d.cookie stored.after) (has rows))
       (ordered : AreOrdered rows) where
-    abbrev base : Contents
+    abbrev pub base : Contents
     base = rows_at d.cookie was.records
 
-    abbrev history : List Operation
+    abbrev pub history : List Operation
     history = ops_at d.cookie was.changes
 
-    all_ops : (n : ℕ) → stored.synced ≤ n
+    pub all_ops : (n : ℕ) → stored.synced ≤ n
         → of_table name d.cookie (commits_at n stored) ≡ of_table name d.cookie stored.before ++ of_table name d.cookie stored.after
     all_ops n low = ap (λ q. of_table name d.cookie (stored.before ++ q)) (take_all n stored.after (omega (arith, all, low)))
         ∙ of_table-append name d.cookie stored.before stored.after
 
     -- as they are, and as the draft is
-    old_between : (n : ℕ) → stored.synced ≤ n → BetweenAt first stored name n d (contents_at d.kind d.cookie was)
+    pub old_between : (n : ℕ) → stored.synced ≤ n → BetweenAt first stored name n d (contents_at d.kind d.cookie was)
     old_between n low = subst (λ c. BetweenAt first stored name n d c)
         (contents_cut d.kind d.cookie (synced_ops was.changes) was
         ∙ ap (λ ops. after put_op d.kind ops base) (all_left d.cookie (synced_ops was.changes) was.changes synced (omega arith)))
@@ -191,16 +192,28 @@ module _ (first : First) (stored : Stored) (name : List ℕ) (o : IsOrdered firs
         (draft_between d.kind (has (contents_at d.kind d.cookie was)) (has rows) (of_table name d.cookie stored.before)
         (of_table name d.cookie stored.after) draft))
 
+    -- each record is as it was or as in the draft
+    pub which : (r : Tree) → (has (after put_op d.kind history rows) r ≡ has (contents_at d.kind d.cookie was) r)
+        ⊎ (has (after put_op d.kind history rows) r ≡ has rows r)
+    which r = subst (λ m. (m r ≡ has (contents_at d.kind d.cookie was) r) ⊎ (m r ≡ has rows r)) (sym (has-after d.kind history rows))
+        (beside d.kind (has base) (has (contents_at d.kind d.cookie was)) (has rows) history
+        (λ r. ap (λ m. m r) (has-after d.kind history base)) r)
+
     -- the old ops done over the draft
     mixed_between : (n : ℕ) → stored.synced ≤ n → BetweenAt first stored name n d (after put_op d.kind history rows)
     mixed_between n low = either d.kind (first.rows name d.kind d.cookie) (has (contents_at d.kind d.cookie was)) (has rows)
         (has (after put_op d.kind history rows)) (of_table name d.cookie (commits_at n stored)) (old_between n low) (draft_is_between n low)
-        (λ r. subst (λ m. (m r ≡ has (contents_at d.kind d.cookie was) r) ⊎ (m r ≡ has rows r)) (sym (has-after d.kind history rows))
-        (beside d.kind (has base) (has (contents_at d.kind d.cookie was)) (has rows) history
-        (λ r. ap (λ m. m r) (has-after d.kind history base)) r))
+        which
 
-    defined_as : (n : ℕ) (e : Definition) → stored.synced ≤ n → standing (commits_at n stored) first.schema name ≡ Some e → d ≡ e
+    pub defined_as : (n : ℕ) (e : Definition) → stored.synced ≤ n → standing (commits_at n stored) first.schema name ≡ Some e → d ≡ e
     defined_as n e low stands = some_same d e (sym (defined n low) ∙ stands)
+
+    pub new_contents : (k : ℕ) → synced_ops was.changes ≤ k
+        → contents_at d.kind d.cookie (cut_table k (with_rows d.cookie rows was)) ≡ after put_op d.kind history rows
+    new_contents k enough = contents_cut d.kind d.cookie k (with_rows d.cookie rows was)
+        ∙ ap (λ ops. after put_op d.kind ops (rows_at d.cookie (Some record { cookie = d.cookie; rows = rows })))
+        (all_left d.cookie k was.changes synced enough)
+        ∙ ap (after put_op d.kind history) (own_rows d.cookie rows)
 
     pub rows_beside : IsOrdered first (with_table name (with_rows d.cookie rows was) stored)
     rows_beside = table_changed first stored o name (with_rows d.cookie rows was)
@@ -209,13 +222,6 @@ module _ (first : First) (stored : Stored) (name : List ℕ) (o : IsOrdered firs
         (defined_as n e low stands)
         (subst (λ c. BetweenAt first stored name n d c) (sym (new_contents k enough)) (mixed_between n low)))
         (cookie_reached first stored o name d defined, (o.cookies name).1) (ordered, (o.in_order.tables name).1)
-      where
-        new_contents : (k : ℕ) → synced_ops was.changes ≤ k
-            → contents_at d.kind d.cookie (cut_table k (with_rows d.cookie rows was)) ≡ after put_op d.kind history rows
-        new_contents k enough = contents_cut d.kind d.cookie k (with_rows d.cookie rows was)
-            ∙ ap (λ ops. after put_op d.kind ops (rows_at d.cookie (Some record { cookie = d.cookie; rows = rows })))
-            (all_left d.cookie k was.changes synced enough)
-            ∙ ap (after put_op d.kind history) (own_rows d.cookie rows)
 
     pub rows_left : IsOrdered first (with_table name (rows_alone d.cookie rows) stored)
     rows_left = table_changed first stored o name (rows_alone d.cookie rows)

@@ -3,9 +3,10 @@ use Rattle.std.specs.Prelude.{◌≡◌, ℕ, ◌≤◌, take, List, [], ◌++�
 use Rattle.std.specs.List.{AllByRecursion}
 use Rattle.db_model.specs.Commits.{CommitRecord}
 use Rattle.db_model.specs.Definitions.{Definition}
+use Rattle.db_model.specs.Ops.{Operation}
 use Rattle.dump_laws.specs.Contents.{has, AreOrdered, IsKeyed}
 use Rattle.dump_laws.specs.Directory.{Schema, definition_of, reached_after, schema_after, of_table}
-use Rattle.dump_laws.specs.Effects.{IsCarried}
+use Rattle.dump_laws.specs.Effects.{Rows, put, after, Between, IsCarried}
 use Rattle.dump_laws.specs.Lists.{Directory, HasMeaning, view_of, AreKeyed}
 use Rattle.dump_laws.specs.Order.{AreInTurn, NoneAbove, IsStrict, First, IsOn}
 use Rattle.store_files.specs.Forms.{AreIncreasing}
@@ -91,3 +92,13 @@ IsCarriedIn first stored name = (n k : ℕ) → stored.synced ≤ n → synced_o
     → (d : Definition) → standing (commits_at n stored) first.schema name ≡ Some d
     → IsCarried d.kind (first.rows name d.kind d.cookie) (of_table name d.cookie stored.before)
     (of_table name d.cookie (take n stored.after)) (has (contents_at d.kind d.cookie (cut_table k (stored.tables name))))
+
+-- Of the ops of PREVIOUS.LOG on the table these are in its files, and those are left to carry: the files are contents
+-- that are between, with the former done.
+pub record IsCarriedUpTo (first : First) (stored : Stored) (name : List ℕ) (d : Definition)
+    (carried left : List Operation) : Type 0 where
+  pub base : Rows
+  pub between : (n : ℕ) → stored.synced ≤ n
+      → Between d.kind (first.rows name d.kind d.cookie) (of_table name d.cookie (commits_at n stored)) base
+  pub files : has (contents_at d.kind d.cookie (stored.tables name)) ≡ after put d.kind carried base
+  pub all : carried ++ left ≡ of_table name d.cookie stored.before

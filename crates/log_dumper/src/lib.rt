@@ -4,10 +4,12 @@
 //! The laws say the same of the whole directory.
 #![tactic(auto)]
 
+mod carried;
 mod directories;
 mod images;
 mod ordered;
 
+pub use carried::{carried_law, carrying_law};
 pub use directories::directory_law;
 pub use images::image_law;
 pub use ordered::{ordered_law, stands_law};
