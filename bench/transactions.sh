@@ -1,9 +1,9 @@
 #!/bin/sh
-# Transactions of the program beside Mnesia's of one process, each on one node and one directory, with a disc_copies table: 100,000 of one
-# write and 10,000 of ten writes, over 1,000 keys. Then of the program alone: one transaction of 99,998 writes and reads beside as many
-# puts and gets, and reads that a lock bars, of a transaction with 999 calls and of one with a hundred times as many. The program's figures are
-# those of whole runs, with their start and their stop, but for the reads that are barred. The one word is a part of the counts, as 100 for a
-# hundredth of them.
+# Transactions of the program beside Mnesia's of one process, each on one node and one directory, with a disc_copies table: 50,000 of one
+# write and 5,000 of ten writes, over 1,000 keys, each five times, of which the fastest counts. Then of the program alone: one transaction of
+# 99,998 writes and reads beside as many puts and gets, the fastest of five again, and reads that a lock bars, of a transaction with 999 calls
+# and of one with a hundred times as many. The program's figures are those of whole runs, with their start and their stop, but for the reads
+# that are barred. The one word is a part of the counts, as 100 for a hundredth of them.
 . "$(dirname -- "$0")/prepare.sh"
 needs python3 erl erlc
 built
@@ -18,10 +18,12 @@ writes(Words) ->
     ok = mnesia:create_schema([node()]),
     ok = mnesia:start(),
     {atomic, ok} = mnesia:create_table(t, [{disc_copies, [node()]}]),
-    {TimeOne, _} = timer:tc(fun() -> each(One, fun(N) -> write(N, 1) end) end),
-    {TimeTen, _} = timer:tc(fun() -> each(Ten, fun(N) -> write(N * 10, 10) end) end),
+    TimeOne = fastest(fun() -> each(One, fun(N) -> write(N, 1) end) end),
+    TimeTen = fastest(fun() -> each(Ten, fun(N) -> write(N * 10, 10) end) end),
     io:format("seconds ~p ~p~n", [TimeOne / 1000000, TimeTen / 1000000]),
     halt().
+
+fastest(Do) -> lists:min([element(1, timer:tc(Do)) || _ <- lists:seq(1, 5)]).
 
 each(0, _) -> ok;
 each(N, Do) ->
@@ -37,8 +39,8 @@ cd "$dir" || exit 1
 erlc beside.erl || exit 1
 
 part=${1:-1}
-ones=$((100000 / part))
-tens=$((10000 / part))
+ones=$((50000 / part))
+tens=$((5000 / part))
 calls=$((99998 / part))
 seconds="$(erl -noinput -mnesia dir '"mnesia"' -s beside writes $ones $tens | sed -n 's/^seconds //p')"
 
@@ -62,8 +64,9 @@ def whole(name, count):
     return [line for n in range(count // 2) for line in [f"write {name} t {{t,{n},{n}}}", f"read {name} t {n}"]]
 
 
-def run(name, lines):
-    return whole_run(program, os.path.join(dir, name), ["create_table t []", *lines])
+def fastest(name, lines):
+    """How many seconds the fastest of five runs takes, each on a directory of its own."""
+    return min(whole_run(program, os.path.join(dir, f"{name}{n}"), ["create_table t []", *lines]) for n in range(5))
 
 
 def node_of(name):
@@ -72,13 +75,13 @@ def node_of(name):
     return node
 
 
-one = run("ones", [line for n in range(ones) for line in transaction("x", n, 1)])
-ten = run("tens", [line for n in range(tens) for line in transaction("x", n * 10, 10)])
+one = fastest("ones", [line for n in range(ones) for line in transaction("x", n, 1)])
+ten = fastest("tens", [line for n in range(tens) for line in transaction("x", n * 10, 10)])
 for name, count, own, other in [("one write", ones, one, mnesia[0]), ("ten writes", tens, ten, mnesia[1])]:
     print(f"transactions of {name}: {count / own:,.0f} a second, Mnesia's: {count / other:,.0f}, ratio: {other / own:.1f}")
 
-single = run("single", [line for n in range(calls // 2) for line in [f"put t {{t,{n},{n}}}", f"get t {n}"]])
-all = run("whole", ["begin x", *whole("x", calls), "commit x"])
+single = fastest("single", [line for n in range(calls // 2) for line in [f"put t {{t,{n},{n}}}", f"get t {n}"]])
+all = fastest("whole", ["begin x", *whole("x", calls), "commit x"])
 print(f"one transaction of {calls:,} writes and reads: {all:.2f} seconds, as many single calls: {single:.2f}, ratio: {all / single:.2f}")
 
 barred = []
