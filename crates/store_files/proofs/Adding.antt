@@ -42,7 +42,8 @@ marked_file log now mark writer at seen is =
 -- ---- the records stand beside it
 
 module _ (old new : Past) (writer : DclState) (log : Handle) (at : log ≡ dcl_handle writer) (records : Option (List (List ℕ)))
-    (all : List (List ℕ)) (synced : ℕ) (h : DclStands old writer records all synced) (touches : Touches (λ n. n ≡ file_of log) old new) where
+    (all : List (List ℕ)) (synced : ℕ) (h : DclStands old writer records all synced)
+    (touches : Touches (λ n. n ≡ file_of log) old new) where
   pub own_touches : Touches (λ n. n ≡ dcl_of writer.table) old new
   own_touches = subst (λ m. Touches (λ n. n ≡ m) old new) (ap file_of at) touches
 

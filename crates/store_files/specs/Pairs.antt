@@ -59,7 +59,8 @@ ChangesHave (Some changes) file =
     (bytes : List ℕ) × (file ≡ Some bytes) × HasPrefix changes.items changes.synced bytes
 
 abbrev pub FilesHave : List ℕ → TableFiles → (List ℕ → Option (List ℕ)) → Type 0
-FilesHave table files image = FileHas files.records (image (dcd_of table)) × ChangesHave files.changes (image (dcl_of table))
+FilesHave table files image =
+    FileHas files.records (image (dcd_of table)) × ChangesHave files.changes (image (dcl_of table))
 
 -- the old files, or the new records beside the old ops
 abbrev pub OldOrNew : List ℕ → TableFiles → List (List ℕ) → (List ℕ → Option (List ℕ)) → Type 0

@@ -31,7 +31,8 @@ impl Model for DclWriter {
     // The table's name is that of its file but for the four bytes of the ending.
     ghost view = { λ w. record { table = take (length w.log.name - 4) w.log.name; closed = w.log.closed } };
 
-    ghost invariant = { λ w. w.log ≡ dcl_handle (record { table = take (length w.log.name - 4) w.log.name; closed = w.log.closed }) };
+    ghost invariant = { λ w. w.log
+        ≡ dcl_handle (record { table = take (length w.log.name - 4) w.log.name; closed = w.log.closed }) };
 }
 
 impl DclWriter {

@@ -56,7 +56,8 @@ pub fn record_item(alloc: Global, row: &Term) -> Result<Vec<u8>, AllocError>
 pub fn change_item(alloc: Global, op: &Op) -> Result<Vec<u8>, LogErr>
     requires named { IsTableName (table_of (operation op.now)) }
     requires levels { depth (op_tree (operation op.now)) ≤ 128 }
-    ensures item { (table : Definition) → IfOk result (λ item. IsItemOf (dcl_form table) (operation op.now) item.items) }
+    ensures item { (table : Definition)
+        → IfOk result (λ item. IsItemOf (dcl_form table) (operation op.now) item.items) }
     ensures text { IfOk result (λ item. item.items ≡ item_bytes (canon (op_tree (operation op.now)))) }
     ensures long { IsErrOf result LogErr.TooLong → 2 ^ 28 < length (canon (op_tree (operation op.now))) }
     ensures only { IfErr result (λ error. (error ≡ LogErr.TooLong) ⊎ (error ≡ LogErr.Memory)) }

@@ -9,7 +9,8 @@ use Rattle.store_files.proofs.replacement.drafted.Goals as goal
 
 pub append-requires-clause-log : goal.append-requires-clause-log
 append-requires-clause-log g c told =
-    made_log (g.D.Disk.past c.draft.new.disk) c.in_ok-log.log c.args.name (c.args.head.now ∷ []) c.in_ok-log.ensures.log (c.in_ok-log.ensures.reads told)
+    made_log (g.D.Disk.past c.draft.new.disk) c.in_ok-log.log c.args.name (c.args.head.now ∷ []) c.in_ok-log.ensures.log
+    (c.in_ok-log.ensures.reads told)
 
 pub returns-in_err-append-clause-calls : goal.returns-in_err-append-clause-calls
 returns-in_err-append-clause-calls g c =

@@ -14,8 +14,8 @@ pub returns-clause-log : goal.returns-clause-log
 returns-clause-log g c told =
     on_ok_weaker c.append.result
     (subst (λ w. IsLog (g.D.Disk.past c.append.new.disk) (dcd_handle w)) (sym c.self.view_is))
-    (draft_appended c.args.self.now (c.self.invariant.1 ∙ ap dcd_handle c.self.view_is) c.requires.draft c.append.result (g.D.Disk.past c.args.disk.now)
-    (g.D.Disk.past c.append.new.disk) c.args.items.now
+    (draft_appended c.args.self.now (c.self.invariant.1 ∙ ap dcd_handle c.self.view_is) c.requires.draft c.append.result
+    (g.D.Disk.past c.args.disk.now) (g.D.Disk.past c.append.new.disk) c.args.items.now
     c.append.new.self c.requires.items (c.requires.log told) c.append.ensures.log (λ all more. c.append.ensures.appended all more told))
 
 pub returns-clause-stands : goal.returns-clause-stands
@@ -29,7 +29,8 @@ pub returns-clause-beside : goal.returns-clause-beside
 returns-clause-beside g c files told =
     let at = c.self.invariant.1 ∙ ap dcd_handle c.self.view_is in
     drafting_beside _ _ c.args.self.now.table (dcd_of c.args.self.now.table) files
-    (subst (λ m. Touches (λ n. n ≡ m) (g.D.Disk.past c.args.disk.now) (g.D.Disk.past c.append.new.disk)) (its_draft c.args.self.now at c.requires.draft)
+    (subst (λ m. Touches (λ n. n ≡ m) (g.D.Disk.past c.args.disk.now) (g.D.Disk.past c.append.new.disk))
+    (its_draft c.args.self.now at c.requires.draft)
     (c.append.ensures.calls.touches told))
 
 pub returns-clause-calls : goal.returns-clause-calls
