@@ -67,7 +67,8 @@ module _ (first : First) (stored : Stored) (name : List ℕ) (d : Definition) wh
   carrying_begun defined o = record {
     base = has (contents_at d.kind d.cookie (stored.tables name));
     between = λ n low. subst (λ c. BetweenAt first stored name n d c)
-        (all_ops d.kind d.cookie (ops_count (stored.tables name).changes) (stored.tables name) (count_all d.cookie (stored.tables name).changes))
+        (all_ops d.kind d.cookie (ops_count (stored.tables name).changes) (stored.tables name)
+        (count_all d.cookie (stored.tables name).changes))
         (between_now first stored o name n (ops_count (stored.tables name).changes) low
         (count_enough (stored.tables name).changes) d (defined n low));
     files = refl;
@@ -99,7 +100,8 @@ module _ (first : First) (stored : Stored) (name : List ℕ) (d : Definition) wh
 
     module _ (changes : StoredOps) (is : (stored.tables name).changes ≡ Some changes) where
       pub carrying_synced : (synced : ℕ)
-          → IsCarriedUpTo first (with_table name (with_changes (Some (with_synced synced changes)) (stored.tables name)) stored) name d carried left
+          → IsCarriedUpTo first (with_table name (with_changes (Some (with_synced synced changes)) (stored.tables name)) stored) name d
+          carried left
       carrying_synced synced = subst
           (λ cs. IsCarriedUpTo first (with_table name (with_changes (Some (with_synced synced changes)) (stored.tables name)) stored) name d
           cs left)
@@ -191,7 +193,8 @@ module _ (first : First) (stored : Stored) (name : List ℕ) where
   nothing_at o n k low enough d stands none =
       subst (λ ops. IsCarried d.kind (first.rows name d.kind d.cookie) ops (of_table name d.cookie (take n stored.after))
       (has (contents_at d.kind d.cookie (cut_table k (stored.tables name))))) (sym none)
-      (subst (λ ops. Between d.kind (first.rows name d.kind d.cookie) ops (has (contents_at d.kind d.cookie (cut_table k (stored.tables name)))))
+      (subst (λ ops. Between d.kind (first.rows name d.kind d.cookie) ops
+      (has (contents_at d.kind d.cookie (cut_table k (stored.tables name)))))
       (both_ops stored name d.cookie n ∙ ap (λ ops. ops ++ of_table name d.cookie (take n stored.after)) none)
       (between_now first stored o name n k low enough d stands))
 

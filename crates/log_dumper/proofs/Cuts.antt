@@ -51,7 +51,8 @@ reached_at version stored m n le =
 
 -- ---- contents
 
-pub ops_cut : (cookie n : ℕ) (changes : Option StoredOps) → ops_at cookie (option_map (cut_changes n) changes) ≡ take n (ops_at cookie changes)
+pub ops_cut : (cookie n : ℕ) (changes : Option StoredOps)
+    → ops_at cookie (option_map (cut_changes n) changes) ≡ take n (ops_at cookie changes)
 ops_cut cookie n None = sym (take_none n)
 ops_cut cookie n (Some changes) = go (nat_eq changes.cookie cookie)
   where

@@ -5,6 +5,7 @@ pub mod LogSteps
 pub mod OneImage
 pub mod Parts
 pub mod SaidImages
+pub mod Sayings
 pub mod SchemaSteps
 pub mod StaysCarried
 pub mod TableActs

@@ -5,17 +5,22 @@ use Rattle.std.specs.List.{AllByRecursion}
 use Rattle.std.proofs.lemmas.Bool.{cases_lt}
 use Rattle.std.proofs.lemmas.List.{take_all, take-append-le}
 use Rattle.db_model.specs.Commits.{CommitRecord}
-use Rattle.db_model.specs.Database.{put_op}
+use Rattle.db_model.specs.Database.{put_op, do_commit}
 use Rattle.db_model.specs.Lawful.{IsLawful}
 use Rattle.dump_laws.specs.Contents.{IsKeyed}
-use Rattle.dump_laws.specs.Directory.{reached_after, run, begin, under}
-use Rattle.dump_laws.specs.Effects.{put, after}
-use Rattle.dump_laws.specs.Lists.{Directory, database_of, view_of, IsOrderly, AreKeyed}
+use Rattle.dump_laws.specs.Directory.{reached_after, under}
+use Rattle.dump_laws.specs.Effects.{after}
+use Rattle.dump_laws.specs.Lists.{Directory, database_of, seen, view_of, IsOrderly, AreKeyed}
 use Rattle.dump_laws.specs.Order.{IsInTurn, AreInTurn, NoneAbove, First}
 use Rattle.dump_laws.proofs.Runs.{reached_after-append, reached_after_later}
+use Rattle.dump_laws.proofs.Logs.{done_seen, lawful_next}
+use Rattle.dump_laws.proofs.Meaning.{meaning_seen}
+use Rattle.dump_laws.proofs.Options.{some_same}
+use Rattle.dump_laws.proofs.Plain.{live}
+use Rattle.dump_laws.proofs.Sorted.{alike}
 use Rattle.dump_laws.proofs.Views.{image}
 use Rattle.dump_laws.proofs.Whole.{in_turn_appended}
-use Rattle.log_dumper.specs.Ordered.{synced_version, StandsOn, IsOrdered}
+use Rattle.log_dumper.specs.Ordered.{over, synced_version, StandsOn, IsOrdered}
 use Rattle.log_dumper.specs.Stored.{StoredOps, Stored, rows_at, ops_at, contents_at, Cut, synced_ops, IsCut, cut_table, commits_at, image_at, whole, with_commits, IsImageOf, with_commit, with_log_synced, rotated}
 use Rattle.log_dumper.proofs.Cuts.{take_none, commits_whole, in_turn_at, reached_at, contents_cut, upto_later, image_orderly}
 use Rattle.log_dumper.proofs.OneImage.{logs_moved, next_on, commit_appended, same_database}
@@ -24,7 +29,8 @@ use Rattle.log_dumper.proofs.OneImage.{logs_moved, next_on, commit_appended, sam
 
 -- where all is left
 pub all_cut : (cut : Cut) (stored : Stored) → length stored.after ≤ cut.commits
-    → ((name : List ℕ) (cookie : ℕ) → take (cut.ops name) (ops_at cookie (stored.tables name).changes) ≡ ops_at cookie (stored.tables name).changes)
+    → ((name : List ℕ) (cookie : ℕ) → take (cut.ops name) (ops_at cookie (stored.tables name).changes)
+    ≡ ops_at cookie (stored.tables name).changes)
     → image_at cut stored ≡ whole stored
 all_cut cut stored commits ops =
     ap (λ latest. record {
@@ -90,10 +96,11 @@ module _ (first : First) (stored : Stored) (o : IsOrdered first stored) where
       (logs_moved first (image_at of.cut stored) d.previous d.latest of.commits (o.each of.cut of.left))
 
   image_in_turn : (d : Directory) → IsImageOf stored d → AreInTurn first.schema.version (d.previous ++ d.latest)
-  image_in_turn d of = subst (AreInTurn first.schema.version) (sym of.commits) (in_turn_at first.schema.version stored of.cut.commits o.in_turn)
+  image_in_turn d of = subst (AreInTurn first.schema.version) (sym of.commits)
+      (in_turn_at first.schema.version stored of.cut.commits o.in_turn)
 
   pub image_means : (d : Directory) → IsImageOf stored d
-      → under (view_of d) ≡ run put first.rows (d.previous ++ d.latest) (begin first.rows first.schema)
+      → under (view_of d) ≡ over first (d.previous ++ d.latest)
   image_means d of = image first (view_of d) (image_stands d of).on (image_in_turn d of)
 
   image_in_order : (d : Directory) → IsImageOf stored d → IsOrderly d
@@ -109,6 +116,16 @@ module _ (first : First) (stored : Stored) (o : IsOrdered first stored) where
       → database_of d ≡ database_of (whole stored)
   image_now d of all = same_database first d (whole stored) (image_stands d of) whole_stands (image_in_order d of) whole_orderly
       (image_in_turn d of) all
+
+  -- what is appended is done to it
+  pub commit_done_whole : (commit : CommitRecord) → IsLawful commit (database_of (whole stored))
+      → StandsOn first (whole (with_commit commit stored))
+      → seen (database_of (whole (with_commit commit stored))) ≡ seen (do_commit commit (database_of (whole stored)))
+  commit_done_whole commit lawful later = some_same _ _
+      (sym (meaning_seen (whole (with_commit commit stored)) later.meaning)
+      ∙ live (view_of (whole stored)) commit (seen (database_of (whole stored))) whole_stands.strict
+      (meaning_seen (whole stored) whole_stands.meaning) (lawful_next commit (database_of (whole stored)) lawful)
+      ∙ done_seen commit (database_of (whole stored)) lawful)
 
   -- ---- a commit is appended
 
@@ -172,7 +189,8 @@ module _ (first : First) (stored : Stored) (o : IsOrdered first stored) where
       with_last n all = ap (λ q. q ++ commit ∷ []) (take_all n stored.after (omega (arith, all)))
           ∙ sym (take_all n (stored.after ++ commit ∷ []) (omega (arith, all, length-append stored.after (commit ∷ []))))
 
-      same_now : (cut : Cut) → IsCut cut stored → length stored.after < cut.commits → database_of (image_at cut stored) ≡ database_of (whole stored)
+      same_now : (cut : Cut) → IsCut cut stored → length stored.after < cut.commits
+          → database_of (image_at cut stored) ≡ database_of (whole stored)
       same_now cut left all = image_now (image_at cut stored) (record { cut = cut; left = left; commits = refl; is = refl })
           (ap (λ q. stored.before ++ q) (take_all cut.commits stored.after (omega (arith, all))))
 
@@ -194,16 +212,19 @@ module _ (first : First) (stored : Stored) (o : IsOrdered first stored) where
   pub log_rotated : IsOrdered first (rotated stored)
   log_rotated = record {
     in_turn = subst (AreInTurn first.schema.version) (sym (append-nil (stored.before ++ stored.after))) o.in_turn;
-    young = subst (λ q. NoneAbove (reached_after first.schema.version q) first.rows) (sym (append-nil (stored.before ++ stored.after))) o.young;
+    young = subst (λ q. NoneAbove (reached_after first.schema.version q) first.rows)
+        (sym (append-nil (stored.before ++ stored.after))) o.young;
     in_order = record {
       definitions = o.in_order.definitions;
       commits = subst AreKeyed (sym (append-nil (stored.before ++ stored.after))) o.in_order.commits;
       tables = o.in_order.tables;
     };
     cookies = λ name. upto_later (synced_version first stored) (synced_version first (rotated stored)) (stored.tables name)
-        (subst (λ q. synced_version first stored ≤ reached_after first.schema.version q) (moved 0) (at_most stored.synced)) (o.cookies name);
+        (subst (λ q. synced_version first stored ≤ reached_after first.schema.version q) (moved 0) (at_most stored.synced))
+        (o.cookies name);
     each = λ cut left. logs_moved first (image_at (all_commits stored cut) stored) (stored.before ++ stored.after) (take cut.commits [])
-        (sym (moved cut.commits) ∙ ap (λ q. stored.before ++ q) (sym (take_all (stored.synced + length stored.after) stored.after (omega arith))))
+        (sym (moved cut.commits)
+        ∙ ap (λ q. stored.before ++ q) (sym (take_all (stored.synced + length stored.after) stored.after (omega arith))))
         (o.each (all_commits stored cut) (record { commits = omega arith; ops = left.ops }));
   }
     where
@@ -217,3 +238,13 @@ module _ (first : First) (stored : Stored) (o : IsOrdered first stored) where
           (subst (λ v. reached_after first.schema.version (commits_at n stored) ≤ v)
           (sym (reached_after-append first.schema.version (commits_at n stored) (drop n stored.after)))
           (reached_after_later (reached_after first.schema.version (commits_at n stored)) (drop n stored.after)))
+
+-- ---- two that stand for the same
+
+pub over_alike : (first later : First) (one other : Stored) → IsOrdered first one → IsOrdered later other
+    → over first (one.before ++ one.after) ≡ over later (other.before ++ other.after)
+    → database_of (whole one) ≡ database_of (whole other)
+over_alike first later one other o p same = alike (whole one) (whole other) (whole_orderly first one o) (whole_orderly later other p)
+    (whole_stands first one o).meaning (whole_stands later other p).meaning
+    (image first (view_of (whole one)) (whole_stands first one o).on o.in_turn ∙ same
+    ∙ sym (image later (view_of (whole other)) (whole_stands later other p).on p.in_turn))

@@ -14,7 +14,7 @@ use Rattle.store_files.specs.Names.{dcd_of, dcl_of}
 use Rattle.store_files.specs.Pairs.{Changes, ChangesHave}
 use Rattle.store_files.specs.Schema.{HasSchema}
 use Rattle.log_dumper.specs.Directory.{Files, State, DirectoryHas}
-use Rattle.log_dumper.specs.Stored.{StoredRecords, StoredOps, Stored, Cut, synced_ops, cut_changes, cut_table, image_at, whole, with_commits, IsImageOf}
+use Rattle.log_dumper.specs.Stored.{tables_at, StoredRecords, StoredOps, Stored, Cut, synced_ops, cut_changes, image_at, whole, with_commits, IsImageOf}
 use Rattle.log_dumper.specs.Says.{changes_form, SaysSchema, SaysRecords, SaysChanges, Says, HasStoredRecords, HasStoredOps, HasDirectory}
 use Rattle.log_dumper.proofs.TableNames.{told_name}
 
@@ -108,21 +108,9 @@ module _ (s : State) (stored : Stored) (image : Files) (says : Says s stored) (h
   abbrev the_directory : Directory
   the_directory = with_commits has.logs.one has.logs.two (image_at the_cut stored)
 
-  pub image_said : (directory : Directory) × HasDirectory image directory × IsImageOf stored directory
+  pub image_said : (directory : Directory) × (of : IsImageOf stored directory) × HasDirectory image (tables_at of.cut stored) directory
   image_said = (
     the_directory,
-    record {
-      schema = schema_said s.schema stored.version stored.definitions _ has.schema says.schema;
-      in_previous = has.logs.in_previous;
-      in_latest = has.logs.in_latest;
-      tables = λ name valid. record {
-        table = cut_table (count_of name (told_name name)) (stored.tables name);
-        records = records_said (s.tables name).records (stored.tables name).records (image (dcd_of name))
-            (has.tables name valid).0 (says.tables name valid).0;
-        changes = has_of name valid (told_name name);
-        gives = λ kind cookie. refl;
-      };
-    },
     record {
       cut = the_cut;
       left = record {
@@ -132,6 +120,17 @@ module _ (s : State) (stored : Stored) (image : Files) (says : Says s stored) (h
       commits = has.logs.is ∙ ap (λ cs. cs ++ take has.logs.n s.logs.after) says.before
           ∙ ap (λ cs. stored.before ++ take has.logs.n cs) says.after;
       is = refl;
+    },
+    record {
+      schema = schema_said s.schema stored.version stored.definitions _ has.schema says.schema;
+      in_previous = has.logs.in_previous;
+      in_latest = has.logs.in_latest;
+      tables_read = λ name valid. (
+        records_said (s.tables name).records (stored.tables name).records (image (dcd_of name))
+            (has.tables name valid).0 (says.tables name valid).0,
+        has_of name valid (told_name name),
+      );
+      gives = λ name kind cookie. refl;
     },
   )
 

@@ -6,23 +6,27 @@ use Rattle.db_model.specs.Commits.{CommitRecord}
 use Rattle.db_model.specs.Database.{Contents, Table, Database}
 use Rattle.db_model.specs.Definitions.{Definition}
 use Rattle.db_model.specs.Lawful.{table_in}
-use Rattle.dump_laws.specs.Directory.{Files, TableOf, Schema, definition_of, reached_after, put_unit, no_rows, schema_after, schema_ops_taken}
+use Rattle.dump_laws.specs.Contents.{has}
+use Rattle.dump_laws.specs.Directory.{Files, TableOf, Schema, definition_of, reached_after, put_unit, no_rows, schema_after, schema_ops_taken, of_table}
+use Rattle.dump_laws.specs.Effects.{IsCarried, AreIdle}
 use Rattle.dump_laws.specs.Lists.{Directory, all_taken_with, CanTakeAllWith, taken_with, begun, database_of, HasMeaning, seen_table, schema_of, view_of, behind, with_schema_behind, IsOrderly, IsNamedBefore, AreSorted, AreKeyed}
-use Rattle.dump_laws.specs.Order.{IsStrict, First, first_after}
+use Rattle.dump_laws.specs.Order.{AreInTurn, AllUpTo, IsStrict, OfEach, First, first_after}
 use Rattle.dump_laws.proofs.Acts.{after_some}
 use Rattle.dump_laws.proofs.Alike.{Alike, AlikeDatabases, taken_alike, can_left}
-use Rattle.dump_laws.proofs.Closed.{with_ops}
-use Rattle.dump_laws.proofs.Runs.{run-append, reached_after-append, version_after, unit_ops}
+use Rattle.dump_laws.proofs.Carrying.{carried_idle}
+use Rattle.dump_laws.proofs.Closed.{up_to_later, with_ops}
+use Rattle.dump_laws.proofs.Runs.{run-append, reached_after-append, in_turn_left, in_turn_up_to, version_after, unit_ops}
 use Rattle.dump_laws.proofs.Sorted.{directory_sorted}
 use Rattle.dump_laws.proofs.Stricts.{first_young}
+use Rattle.dump_laws.proofs.Views.{image, previous_dropped as dropped_same}
 use Rattle.dump_laws.proofs.Whole.{on_start, in_turn_dropped}
 use Rattle.store_files.specs.Forms.{AreIncreasing}
 use Rattle.store_files.specs.Schema.{IsNamedBefore as IsDefinedBefore}
-use Rattle.log_dumper.specs.Ordered.{IsInOrder, IsTableUpTo, synced_version, StandsOn, IsOrdered, standing, IsDefined, ArePlain, IsCarriedIn}
-use Rattle.log_dumper.specs.Stored.{Stored, Cut, IsCut, commits_at, image_at, whole, IsAllSynced, without_previous, with_schema_at}
+use Rattle.log_dumper.specs.Ordered.{IsInOrder, IsTableUpTo, synced_version, StandsOn, IsOrdered, over, standing, IsDefined, ArePlain, IsCarriedIn}
+use Rattle.log_dumper.specs.Stored.{Stored, Cut, synced_ops, IsCut, commits_at, image_at, whole, IsAllSynced, without_previous, with_schema_at}
 use Rattle.log_dumper.proofs.Cuts.{commits_more, commits_whole, in_turn_at}
 use Rattle.log_dumper.proofs.LogSteps.{all_cut, whole_stands, whole_orderly}
-use Rattle.log_dumper.proofs.OneImage.{made_alike, database_schema, schema_written, previous_dropped}
+use Rattle.log_dumper.proofs.OneImage.{made_alike, schema_on, database_schema, schema_written, previous_dropped}
 use Rattle.log_dumper.proofs.TableActs.{stands_so}
 use Rattle.log_dumper.proofs.TableSteps.{all_left}
 
@@ -74,6 +78,13 @@ behind_sorted d p s is orderly can =
     (subst (λ q. CanTakeAllWith d.files q (begun d)) (sym (append-nil p))
     (can_left d.files p s (begun d) (subst (λ q. CanTakeAllWith d.files q (begun d)) is can))))
 
+-- so many commits, and of the ops those that are synced
+abbrev synced_cut : ℕ → Stored → Cut
+synced_cut n stored = record { commits = n; ops = λ name. synced_ops (stored.tables name).changes }
+
+synced_left : (n : ℕ) (stored : Stored) → stored.synced ≤ n → IsCut (synced_cut n stored) stored
+synced_left n stored low = record { commits = low; ops = λ name. omega arith }
+
 module _ (first : First) (stored : Stored) (o : IsOrdered first stored) where
   -- ---- the schema file is written
 
@@ -119,47 +130,89 @@ module _ (first : First) (stored : Stored) (o : IsOrdered first stored) where
 
   -- ---- PREVIOUS.LOG is dropped
 
-  before_schema : (schema : Schema) × (schema_after stored.before first.schema ≡ Some schema)
+  pub before_schema : (schema : Schema) × (schema_after stored.before first.schema ≡ Some schema)
   before_schema =
       let some = after_some stored.after (schema_after stored.before first.schema) (schema_of (database_of (whole stored)))
       (sym (run-append put_unit no_rows stored.before stored.after first.schema)
       ∙ database_schema first (whole stored) (whole_stands first stored o) o.in_turn) in
       (some.0, some.1)
 
-  pub previous_gone : ((name : List ℕ) → IsCarriedIn first stored name) → reached_after first.schema.version stored.before ≤ stored.version
-      → (later : First) × IsOrdered later (without_previous stored)
-  previous_gone carried enough = (
-    first_after stored.before schema first,
-    record {
-      in_turn = in_turn_dropped first.schema schema stored.before stored.after made o.in_turn;
-      young = first_young first stored.before stored.after schema o.in_turn made o.young;
-      in_order = record {
-        definitions = o.in_order.definitions;
-        commits = all_behind _ stored.before stored.after o.in_order.commits;
-        tables = o.in_order.tables;
-      };
-      cookies = λ name. subst (λ v. IsTableUpTo v (stored.tables name)) same (o.cookies name);
-      each = λ cut left. previous_dropped first (image_at cut stored) schema
-          (in_turn_at first.schema.version stored cut.commits o.in_turn) made
-          (subst (λ v. v ≤ stored.version) (sym version) enough)
-          (λ last reached name t stands. carried name cut.commits (cut.ops name) left.commits (left.ops name) t.definition
-          (stands_so (commits_at cut.commits stored) first.schema last name t reached stands))
-          (o.each cut (record { commits = left.commits; ops = left.ops }));
-    },
-  )
+  module _ (carried : (name : List ℕ) → IsCarriedIn first stored name)
+      (enough : reached_after first.schema.version stored.before ≤ stored.version)
     where
-      schema : Schema
-      schema = before_schema.0
+      abbrev pub reached_schema : Schema
+      reached_schema = before_schema.0
 
-      made : schema_after stored.before first.schema ≡ Some schema
+      made : schema_after stored.before first.schema ≡ Some reached_schema
       made = before_schema.1
 
-      version : schema.version ≡ reached_after first.schema.version stored.before
-      version = version_after stored.before first.schema schema made
+      version : reached_schema.version ≡ reached_after first.schema.version stored.before
+      version = version_after stored.before first.schema reached_schema made
 
-      same : synced_version first stored ≡ synced_version (first_after stored.before schema first) (without_previous stored)
-      same = reached_after-append first.schema.version stored.before (take stored.synced stored.after)
+      abbrev pub later : First
+      later = first_after stored.before reached_schema first
+
+      reached_same : synced_version first stored ≡ synced_version later (without_previous stored)
+      reached_same = reached_after-append first.schema.version stored.before (take stored.synced stored.after)
           ∙ ap (λ v. reached_after v (take stored.synced stored.after)) (sym version)
+
+      carried_at : (cut : Cut) → IsCut cut stored → (last : Schema) → schema_after (commits_at cut.commits stored) first.schema ≡ Some last
+          → OfEach last (λ name t. IsCarried t.kind (first.rows name t.kind t.cookie) (of_table name t.cookie stored.before)
+          (of_table name t.cookie (take cut.commits stored.after)) (has ((image_at cut stored).files name t.kind t.cookie)))
+      carried_at cut left last reached name t stands = carried name cut.commits (cut.ops name) left.commits (left.ops name) t.definition
+          (stands_so (commits_at cut.commits stored) first.schema last name t reached stands)
+
+      pub previous_gone : IsOrdered later (without_previous stored)
+      previous_gone = record {
+        in_turn = in_turn_dropped first.schema reached_schema stored.before stored.after made o.in_turn;
+        young = first_young first stored.before stored.after reached_schema o.in_turn made o.young;
+        in_order = record {
+          definitions = o.in_order.definitions;
+          commits = all_behind _ stored.before stored.after o.in_order.commits;
+          tables = o.in_order.tables;
+        };
+        cookies = λ name. subst (λ v. IsTableUpTo v (stored.tables name)) reached_same (o.cookies name);
+        each = λ cut left.
+            let old : IsCut cut stored = record { commits = left.commits; ops = left.ops } in
+            previous_dropped first (image_at cut stored) reached_schema (in_turn_at first.schema.version stored cut.commits o.in_turn) made
+            (subst (λ v. v ≤ stored.version) (sym version) enough) (carried_at cut old) (o.each cut old);
+      }
+
+      -- with the same commits behind it stands for the same
+      module _ (n : ℕ) (low : stored.synced ≤ n) where
+        abbrev d : Directory
+        d = image_at (synced_cut n stored) stored
+
+        left : IsCut (synced_cut n stored) stored
+        left = synced_left n stored low
+
+        h : StandsOn first d
+        h = o.each (synced_cut n stored) left
+
+        still_in_turn : AreInTurn first.schema.version (commits_at n stored)
+        still_in_turn = in_turn_at first.schema.version stored n o.in_turn
+
+        upto : AllUpTo stored.version stored.before
+        upto = up_to_later (reached_after first.schema.version stored.before) stored.version stored.before enough
+            (in_turn_up_to first.schema.version stored.before
+            (in_turn_left first.schema.version stored.before (take n stored.after) still_in_turn))
+
+        idle : (last : Schema) → schema_after (commits_at n stored) (view_of d).schema ≡ Some last
+            → OfEach last (λ name t. AreIdle t.kind (of_table name t.cookie stored.before) (of_table name t.cookie (take n stored.after))
+            (has (d.files name t.kind t.cookie)))
+        idle last reached name t stands =
+            carried_idle t.definition.kind (first.rows name t.definition.kind t.definition.cookie)
+            (has (d.files name t.definition.kind t.definition.cookie)) (of_table name t.definition.cookie stored.before)
+            (of_table name t.definition.cookie (take n stored.after))
+            (carried_at (synced_cut n stored) left last (sym (schema_on first d h.on still_in_turn) ∙ reached) name t stands)
+
+        pub same_over : over first (commits_at n stored) ≡ over later (take n stored.after)
+        same_over =
+            sym (image first (view_of d) h.on still_in_turn)
+            ∙ sym (dropped_same (view_of d) h.strict.in_turn upto idle)
+            ∙ image later (view_of (record d { previous = [] }))
+            (previous_gone.each (synced_cut n stored) (record { commits = low; ops = left.ops })).on
+            (in_turn_at later.schema.version (without_previous stored) n previous_gone.in_turn)
 
   -- ---- how a table is defined, whatever a crash leaves
 
@@ -214,7 +267,8 @@ defined_whole first stored name o plain n low =
         → standing (commits_at n stored) first.schema name ≡ standing (commits_at n stored ++ drop n stored.after) first.schema name
     go s is =
         ap (option_and_then (λ last. definition_of (last.tables name))) is ∙ by s
-        ∙ ap (λ t. option_and_then (λ last. definition_of (last.tables name)) (option_and_then (λ now. schema_after (drop n stored.after) now) t)) (sym is)
+        ∙ ap (λ t. option_and_then (λ last. definition_of (last.tables name))
+        (option_and_then (λ now. schema_after (drop n stored.after) now) t)) (sym is)
         ∙ ap (option_and_then (λ last. definition_of (last.tables name)))
         (sym (run-append put_unit no_rows (commits_at n stored) (drop n stored.after) first.schema))
       where
@@ -231,7 +285,8 @@ all_synced_whole stored cut all left =
     all_cut cut stored (omega (arith, all.commits, left.commits))
     (λ name cookie. all_left cookie (cut.ops name) (stored.tables name).changes (all.ops name) (left.ops name))
 
-pub start_ordered : (stored : Stored) → IsAllSynced stored → IsInOrder stored → HasMeaning (whole stored) → IsStrict (view_of (whole stored))
+pub start_ordered : (stored : Stored) → IsAllSynced stored → IsInOrder stored → HasMeaning (whole stored)
+    → IsStrict (view_of (whole stored))
     → ((name : List ℕ) → IsTableUpTo (reached_after stored.version (stored.before ++ stored.after)) (stored.tables name))
     → IsOrdered record { schema = schema_of (begun (whole stored)); rows = (view_of (whole stored)).files } stored
 start_ordered stored all in_order can strict upto = record {

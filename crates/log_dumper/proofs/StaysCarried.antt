@@ -57,7 +57,8 @@ module _ (first : First) (stored : Stored) (name : List ℕ) (h : IsCarriedIn fi
   ops_synced_carried changes synced is more = own_changed (with_changes (Some (with_synced synced changes)) (stored.tables name))
       (λ n k low enough d stands.
       subst (λ c. IsCarried d.kind (first.rows name d.kind d.cookie) (of_table name d.cookie stored.before)
-      (of_table name d.cookie (take n stored.after)) (has (contents_at d.kind d.cookie (cut_table k (with_changes c (stored.tables name)))))) is
+      (of_table name d.cookie (take n stored.after))
+      (has (contents_at d.kind d.cookie (cut_table k (with_changes c (stored.tables name)))))) is
       (h n k low (subst (λ c. synced_ops c ≤ k) (sym is) (omega (arith, more, enough))) d stands))
 
   -- a draft takes the place of its records
@@ -72,7 +73,8 @@ module _ (first : First) (stored : Stored) (name : List ℕ) (h : IsCarriedIn fi
 
     old_holds : (n : ℕ) → stored.synced ≤ n → Holds n (contents_at d.kind d.cookie (stored.tables name))
     old_holds n low = subst (Holds n)
-        (all_ops d.kind d.cookie (ops_count (stored.tables name).changes) (stored.tables name) (count_all d.cookie (stored.tables name).changes))
+        (all_ops d.kind d.cookie (ops_count (stored.tables name).changes) (stored.tables name)
+        (count_all d.cookie (stored.tables name).changes))
         (h n (ops_count (stored.tables name).changes) low (count_enough (stored.tables name).changes) d (defined n low))
 
     draft_holds : (n : ℕ) → stored.synced ≤ n → Holds n rows
@@ -102,7 +104,8 @@ module _ (first : First) (stored : Stored) (name : List ℕ) (h : IsCarriedIn fi
         (of_table name f.cookie (take n stored.after))
         (has (contents_at f.kind f.cookie (cut_table k (with_rows d.cookie rows (stored.tables name))))))
         (same_definition n e low stands)
-        (subst (Holds n) (sym (steps.new_contents first stored name o d rows defined all synced draft ordered k enough)) (mixed_holds n low)))
+        (subst (Holds n) (sym (steps.new_contents first stored name o d rows defined all synced draft ordered k enough))
+        (mixed_holds n low)))
 
     pub alone_carried : IsCarriedIn first (with_table name (rows_alone d.cookie rows) stored) name
     alone_carried = own_changed (rows_alone d.cookie rows) (λ n k low enough e stands.
@@ -118,7 +121,8 @@ module _ (first : First) (stored : Stored) (name : List ℕ) (h : IsCarriedIn fi
     old_commits = stored.before ++ stored.after
 
     -- with all of the old ones
-    module _ (n k : ℕ) (low : stored.synced ≤ n) (enough : synced_ops (stored.tables name).changes ≤ k) (all : length stored.after < n) where
+    module _ (n k : ℕ) (low : stored.synced ≤ n) (enough : synced_ops (stored.tables name).changes ≤ k)
+        (all : length stored.after < n) where
       old_all : commits_at n stored ≡ old_commits
       old_all = ap (λ q. stored.before ++ q) (take_all n stored.after (omega (arith, all)))
 

@@ -110,7 +110,8 @@ module _ (first : First) (stored : Stored) (o : IsOrdered first stored) (name : 
             → synced_ops (if b then table else stored.tables other).changes ≤ cut.ops other
             → synced_ops (stored.tables other).changes ≤ (if b then synced_ops (stored.tables name).changes else cut.ops other)
         go other true same h =
-            subst (λ t. synced_ops (stored.tables t).changes ≤ synced_ops (stored.tables name).changes) (name_is name other same) (omega arith)
+            subst (λ t. synced_ops (stored.tables t).changes ≤ synced_ops (stored.tables name).changes) (name_is name other same)
+            (omega arith)
         go other false apart h = h
 
     -- of this table, and of each other

@@ -95,7 +95,8 @@ module _ (first : First) (stored : Stored) (name : List ℕ) (o : IsOrdered firs
         (ap (ops_at changes.cookie) is ∙ own_ops changes.cookie changes refl)
 
     -- more of them are synced
-    pub ops_synced : (n : ℕ) → changes.synced ≤ n → IsOrdered first (with_table name (with_changes (Some (with_synced n changes)) was) stored)
+    pub ops_synced : (n : ℕ) → changes.synced ≤ n
+        → IsOrdered first (with_table name (with_changes (Some (with_synced n changes)) was) stored)
     ops_synced n more = table_changed first stored o name (with_changes (Some (with_synced n changes)) was)
         (λ m k low enough e stands.
         subst (λ c. BetweenAt first stored name m e (contents_at e.kind e.cookie (cut_table k (with_changes c was)))) is

@@ -1,23 +1,25 @@
 -- What keeps it that whatever a crash leaves of a directory stands for its commits, done over one first database.
-use Rattle.std.specs.Prelude.{◌≡◌, ℕ, ◌≤◌, take, List, [], ◌++◌, ⊤, Option, None, Some, option_and_then}
-use Rattle.std.specs.List.{AllByRecursion}
+use Rattle.std.specs.Prelude.{◌≡◌, ◌⊎◌, ℕ, ◌≤◌, take, List, [], ◌∷◌, ◌++◌, ⊤, Option, None, Some, option_and_then}
+use Rattle.std.specs.List.{AllZip, AllByRecursion}
 use Rattle.db_model.specs.Commits.{CommitRecord}
 use Rattle.db_model.specs.Definitions.{Definition}
 use Rattle.db_model.specs.Ops.{Operation}
-use Rattle.dump_laws.specs.Contents.{has, AreOrdered, IsKeyed}
-use Rattle.dump_laws.specs.Directory.{Schema, definition_of, reached_after, schema_after, of_table}
+use Rattle.dump_laws.specs.Contents.{has, AreOrdered as AreRowsOrdered, IsKeyed}
+use Rattle.dump_laws.specs.Directory.{DatabaseOf, Schema, definition_of, reached_after, run, begin, schema_after, of_table}
 use Rattle.dump_laws.specs.Effects.{Rows, put, after, Between, IsCarried}
 use Rattle.dump_laws.specs.Lists.{Directory, HasMeaning, view_of, AreKeyed}
 use Rattle.dump_laws.specs.Order.{AreInTurn, NoneAbove, IsStrict, First, IsOn}
 use Rattle.store_files.specs.Forms.{AreIncreasing}
 use Rattle.store_files.specs.Schema.{IsNamedBefore}
-use Rattle.log_dumper.specs.Stored.{StoredRecords, StoredOps, StoredTable, Stored, contents_at, Cut, synced_ops, IsCut, cut_table, commits_at, image_at}
+use Rattle.log_dumper.specs.Directory.{Files, State}
+use Rattle.log_dumper.specs.Says.{Says, HasDirectory}
+use Rattle.log_dumper.specs.Stored.{StoredRecords, StoredOps, StoredTable, Stored, contents_at, Cut, synced_ops, IsCut, cut_table, tables_at, commits_at, image_at, IsImageOf}
 
 -- ---- order
 
 abbrev pub AreRowsInOrder : Option StoredRecords → Type 0
 AreRowsInOrder None = ⊤
-AreRowsInOrder (Some records) = AreOrdered records.rows
+AreRowsInOrder (Some records) = AreRowsOrdered records.rows
 
 abbrev pub AreOpsKeyed : Option StoredOps → Type 0
 AreOpsKeyed None = ⊤
@@ -59,13 +61,35 @@ pub record StandsOn (first : First) (directory : Directory) : Type 0 where
   pub strict : IsStrict (view_of directory)
 
 -- The commits are in turn over the first schema, whose contents are nothing above the version that they reach. No table
--- file is younger than the version that the synced ones reach. And whatever a crash leaves stands on the first database.
+-- file is younger than the version that the synced ones reach. And whatever a crash leaves stands on the first
+-- database.
 pub record IsOrdered (first : First) (stored : Stored) : Type 0 where
   pub in_turn : AreInTurn first.schema.version (stored.before ++ stored.after)
   pub young : NoneAbove (reached_after first.schema.version (stored.before ++ stored.after)) first.rows
   pub in_order : IsInOrder stored
   pub cookies : (name : List ℕ) → IsTableUpTo (synced_version first stored) (stored.tables name)
   pub each : (cut : Cut) → IsCut cut stored → StandsOn first (image_at cut stored)
+
+-- the database that these commits make over the first one
+abbrev pub over : First → List CommitRecord → Option (DatabaseOf Rows)
+over first commits = run put first.rows commits (begin first.rows first.schema)
+
+-- A start finds a directory in the files, which is one of the images of what is stored and stands on the first
+-- database.
+pub record Recovers (first : First) (stored : Stored) (image : Files) : Type 0 where
+  pub directory : Directory
+  pub of : IsImageOf stored directory
+  pub has : HasDirectory image (tables_at of.cut stored) directory
+  pub stands : StandsOn first directory
+
+-- the same of one of these, each over a first database of its own
+abbrev pub RecoversOne : List (First × Stored) → Files → Type 0
+RecoversOne [] image = ⊥
+RecoversOne (one ∷ others) image = Recovers one.0 one.1 image ⊎ RecoversOne others image
+
+-- each of the states says one of these, which is ordered
+abbrev pub AreOrdered : List State → List (First × Stored) → Type 0
+AreOrdered states ones = AllZip (λ s one. Says s one.1 × IsOrdered one.0 one.1) states ones
 
 -- ---- tables that stand
 
@@ -91,7 +115,8 @@ abbrev pub IsCarriedIn : First → Stored → List ℕ → Type 0
 IsCarriedIn first stored name = (n k : ℕ) → stored.synced ≤ n → synced_ops (stored.tables name).changes ≤ k
     → (d : Definition) → standing (commits_at n stored) first.schema name ≡ Some d
     → IsCarried d.kind (first.rows name d.kind d.cookie) (of_table name d.cookie stored.before)
-    (of_table name d.cookie (take n stored.after)) (has (contents_at d.kind d.cookie (cut_table k (stored.tables name))))
+    (of_table name d.cookie (take n stored.after))
+    (has (contents_at d.kind d.cookie (cut_table k (stored.tables name))))
 
 -- Of the ops of PREVIOUS.LOG on the table these are in its files, and those are left to carry: the files are contents
 -- that are between, with the former done.

@@ -3,7 +3,6 @@ use Rattle.std.specs.Prelude.{◌≡◌, ℕ, suc, List, [], codes, ⊤, Option,
 use Rattle.std.specs.List.{AllByRecursion}
 use Rattle.term_core.specs.Tree.{Tree}
 use Rattle.term_wire.specs.Spelling.{IsText}
-use Rattle.db_model.specs.Database.{Contents}
 use Rattle.db_model.specs.Definitions.{Definition}
 use Rattle.db_model.specs.Names.{IsTableName}
 use Rattle.db_model.specs.Ops.{Operation}
@@ -71,16 +70,16 @@ abbrev pub HasStoredOps : Option StoredOps → Option (List ℕ) → Type 0
 HasStoredOps None file = file ≡ None
 HasStoredOps (Some changes) file = Gives changes_form changes.cookie changes.ops file
 
--- the two files of a table, and what they give to a table of any kind and cookie
-pub record HasTable (name : List ℕ) (image : Files) (contents : Kind → ℕ → Contents) : Type 0 where
-  pub table : StoredTable
-  pub records : HasStoredRecords table.records (image (dcd_of name))
-  pub changes : HasStoredOps table.changes (image (dcl_of name))
-  pub gives : (kind : Kind) (cookie : ℕ) → contents kind cookie ≡ contents_at kind cookie table
+abbrev pub HasTable : StoredTable → Option (List ℕ) → Option (List ℕ) → Type 0
+HasTable table dcd dcl = HasStoredRecords table.records dcd × HasStoredOps table.changes dcl
 
--- the files are this directory
-pub record HasDirectory (image : Files) (directory : Directory) : Type 0 where
+-- The files are this directory, with these files of the tables: they give to a table of any kind and cookie what the
+-- directory says.
+pub record HasDirectory (image : Files) (tables : List ℕ → StoredTable) (directory : Directory) : Type 0 where
   pub schema : HasSchema record { version = directory.version; tables = directory.definitions } (image schema_name)
   pub in_previous : Reads directory.previous (image previous)
   pub in_latest : Reads directory.latest (image latest)
-  pub tables : (name : List ℕ) → IsTableName name → HasTable name image (directory.files name)
+  pub tables_read : (name : List ℕ) → IsTableName name
+      → HasTable (tables name) (image (dcd_of name)) (image (dcl_of name))
+  pub gives : (name : List ℕ) (kind : Kind) (cookie : ℕ)
+      → directory.files name kind cookie ≡ contents_at kind cookie (tables name)

@@ -109,6 +109,9 @@ cut_changes n changes = record changes { ops = take n changes.ops }
 abbrev pub cut_table : ℕ → StoredTable → StoredTable
 cut_table n table = record table { changes = option_map (cut_changes n) table.changes }
 
+abbrev pub tables_at : Cut → Stored → List ℕ → StoredTable
+tables_at cut stored name = cut_table (cut.ops name) (stored.tables name)
+
 -- all commits, with so many of LATEST.LOG
 abbrev pub commits_at : ℕ → Stored → List CommitRecord
 commits_at n stored = stored.before ++ take n stored.after
@@ -120,7 +123,7 @@ image_at cut stored = record {
   definitions = stored.definitions;
   previous = stored.before;
   latest = take cut.commits stored.after;
-  files = λ name kind cookie. contents_at kind cookie (cut_table (cut.ops name) (stored.tables name));
+  files = λ name kind cookie. contents_at kind cookie (tables_at cut stored name);
 }
 
 -- all of it

@@ -11,5 +11,5 @@ mod ordered;
 
 pub use carried::{carried_law, carrying_law};
 pub use directories::directory_law;
-pub use images::image_law;
+pub use images::{image_law, says_law};
 pub use ordered::{ordered_law, stands_law};

@@ -1,18 +1,18 @@
 //! What each step makes of what is stored, and that whatever a crash leaves stands on one first database.
 
-ghost use Rattle.std.specs.Prelude.{◌≡◌, ◌≤◌, ℕ, drop, length, List, [], ◌++◌, Option, None, Some, option_map};
+ghost use Rattle.std.specs.Prelude.{◌≡◌, ◌≤◌, ℕ, take, drop, length, List, [], ◌++◌, Option, None, Some, option_map};
 ghost use Rattle.std.specs.List.{AllByRecursion};
 ghost use Rattle.db_model.specs.Commits.{CommitRecord};
-ghost use Rattle.db_model.specs.Database.{Contents};
+ghost use Rattle.db_model.specs.Database.{Contents, do_commit};
 ghost use Rattle.db_model.specs.Definitions.{Definition};
 ghost use Rattle.db_model.specs.Lawful.{table_in, IsLawful};
 ghost use Rattle.db_model.specs.Ops.{Operation};
 ghost use Rattle.dump_laws.specs.Contents.{has, AreOrdered, IsKeyed};
-ghost use Rattle.dump_laws.specs.Directory.{reached_after, run, begin, under, of_table};
-ghost use Rattle.dump_laws.specs.Effects.{put, IsAmong, IsDraft};
-ghost use Rattle.dump_laws.specs.Lists.{Directory, begun, database_of, HasMeaning, schema_of, view_of};
+ghost use Rattle.dump_laws.specs.Directory.{reached_after, under, of_table};
+ghost use Rattle.dump_laws.specs.Effects.{IsAmong, IsDraft};
+ghost use Rattle.dump_laws.specs.Lists.{Directory, begun, database_of, HasMeaning, schema_of, seen, view_of};
 ghost use Rattle.dump_laws.specs.Order.{IsStrict, First};
-ghost use Rattle.log_dumper.specs.Ordered.{IsInOrder, IsTableUpTo, StandsOn, IsOrdered, IsDefined, ArePlain, IsCarriedIn};
+ghost use Rattle.log_dumper.specs.Ordered.{IsInOrder, IsTableUpTo, StandsOn, IsOrdered, over, IsDefined, ArePlain, IsCarriedIn};
 ghost use Rattle.log_dumper.specs.Stored.{StoredOps, Stored, ops_at, contents_at, no_ops, with_op, with_synced, with_changes, with_rows, rows_alone, without_rows, no_table, with_table, AreOpsSynced, commits_at, whole, IsImageOf, IsAllSynced, with_commit, with_log_synced, rotated, without_previous, with_schema_at};
 
 /// What an image of an ordered directory stands for: its commits, done over the first database. One with all commits
@@ -23,11 +23,20 @@ pub fn stands_law()
         → IsImageOf stored directory → StandsOn first directory }
     ensures means { (first : First) (stored : Stored) (directory : Directory) → IsOrdered first stored
         → IsImageOf stored directory
-        → under (view_of directory)
-        ≡ run put first.rows (directory.previous ++ directory.latest) (begin first.rows first.schema) }
+        → under (view_of directory) ≡ over first (directory.previous ++ directory.latest) }
     ensures now { (first : First) (stored : Stored) (directory : Directory) → IsOrdered first stored
         → IsImageOf stored directory → directory.previous ++ directory.latest ≡ stored.before ++ stored.after
         → database_of directory ≡ database_of (whole stored) }
+
+    // The same of two directories, as before a step on the files or the logs and behind it. A commit that is appended
+    // is done to what all stands for.
+    ensures alike { (first later : First) (one other : Stored) → IsOrdered first one → IsOrdered later other
+        → over first (one.before ++ one.after) ≡ over later (other.before ++ other.after)
+        → database_of (whole one) ≡ database_of (whole other) }
+    ensures appended { (first : First) (stored : Stored) (commit : CommitRecord) → IsOrdered first stored
+        → IsLawful commit (database_of (whole stored)) → IsOrdered first (with_commit commit stored)
+        → seen (database_of (whole (with_commit commit stored)))
+        ≡ seen (do_commit commit (database_of (whole stored))) }
 
     // Where no commit makes a table or takes one away that is not synced, a table is defined so in each image.
     ensures defined { (first : First) (stored : Stored) (name : List ℕ) → IsOrdered first stored
@@ -46,8 +55,8 @@ pub fn ordered_law()
         → IsTableUpTo (reached_after stored.version (stored.before ++ stored.after)) (stored.tables name))
         → IsOrdered record { schema = schema_of (begun (whole stored)); rows = (view_of (whole stored)).files } stored }
 
-    // The logs: a commit that is lawful over what all stands for is appended, more of them are made durable, and the log
-    // gets its other name.
+    // The logs: a commit that is lawful over what all stands for is appended, more of them are made durable, and the
+    // log gets its other name.
     ensures appended { (first : First) (stored : Stored) (commit : CommitRecord)
         → IsLawful commit (database_of (whole stored)) → AllByRecursion IsKeyed commit.operations
         → IsOrdered first stored → IsOrdered first (with_commit commit stored) }
@@ -72,8 +81,8 @@ pub fn ordered_law()
         → IsOrdered first
         (with_table name (with_changes (Some (with_synced synced changes)) (stored.tables name)) stored) }
 
-    // A draft of new records takes the place of the old ones, beside the ops and then without them, once the log and the
-    // ops are durable.
+    // A draft of new records takes the place of the old ones, beside the ops and then without them, once the log and
+    // the ops are durable.
     ensures swapped { (first : First) (stored : Stored) (name : List ℕ) (definition : Definition) (rows : Contents)
         → IsDefined first stored name (Some definition) → length stored.after ≤ stored.synced
         → AreOpsSynced (stored.tables name).changes
@@ -95,8 +104,9 @@ pub fn ordered_law()
         → IsOrdered first (with_schema_at front stored) }
 
     // PREVIOUS.LOG is dropped, once all its ops are in the files and the schema file has the version that it reaches.
-    // The first database is then the one behind its commits.
+    // The first database is then the one behind its commits, and each image stands for what it did.
     ensures dropped { (first : First) (stored : Stored) → ((name : List ℕ) → IsCarriedIn first stored name)
         → reached_after first.schema.version stored.before ≤ stored.version → IsOrdered first stored
-        → (later : First) × IsOrdered later (without_previous stored) }
+        → (later : First) × IsOrdered later (without_previous stored)
+        × ((n : ℕ) → stored.synced ≤ n → over first (commits_at n stored) ≡ over later (take n stored.after)) }
 {}

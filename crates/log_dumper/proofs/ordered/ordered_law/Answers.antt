@@ -1,5 +1,5 @@
 use Rattle.log_dumper.proofs.LogSteps.{commit_stored, log_synced, log_rotated}
-use Rattle.log_dumper.proofs.SchemaSteps.{schema_stored, previous_gone, start_ordered}
+use Rattle.log_dumper.proofs.SchemaSteps.{schema_stored, later, previous_gone, same_over, start_ordered}
 use Rattle.log_dumper.proofs.TableSteps.{ops_begun, op_carried, ops_synced, rows_beside, rows_left, files_removed}
 use Rattle.log_dumper.proofs.ordered.ordered_law.Goals as goal
 
@@ -38,4 +38,8 @@ pub returns-clause-schema : goal.returns-clause-schema
 returns-clause-schema c first stored front rest is o = schema_stored first stored o front rest is
 
 pub returns-clause-dropped : goal.returns-clause-dropped
-returns-clause-dropped c first stored carried enough o = previous_gone first stored o carried enough
+returns-clause-dropped c first stored carried enough o = (
+  later first stored o carried enough,
+  previous_gone first stored o carried enough,
+  λ n low. same_over first stored o carried enough n low,
+)
