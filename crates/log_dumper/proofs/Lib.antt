@@ -1,10 +1,12 @@
 pub mod CarriedSteps
 pub mod Cuts
 pub mod FileNames
+pub mod Loading
 pub mod LogSteps
 pub mod OneImage
 pub mod Parts
 pub mod SaidImages
+pub mod SameTables
 pub mod Sayings
 pub mod SchemaSteps
 pub mod StaysCarried

@@ -95,7 +95,7 @@ module _ (first : First) (stored : Stored) (o : IsOrdered first stored) where
   image_stands d of = subst (StandsOn first) (sym of.is)
       (logs_moved first (image_at of.cut stored) d.previous d.latest of.commits (o.each of.cut of.left))
 
-  image_in_turn : (d : Directory) → IsImageOf stored d → AreInTurn first.schema.version (d.previous ++ d.latest)
+  pub image_in_turn : (d : Directory) → IsImageOf stored d → AreInTurn first.schema.version (d.previous ++ d.latest)
   image_in_turn d of = subst (AreInTurn first.schema.version) (sym of.commits)
       (in_turn_at first.schema.version stored of.cut.commits o.in_turn)
 

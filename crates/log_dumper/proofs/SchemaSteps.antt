@@ -178,7 +178,13 @@ module _ (first : First) (stored : Stored) (o : IsOrdered first stored) where
             (subst (λ v. v ≤ stored.version) (sym version) enough) (carried_at cut old) (o.each cut old);
       }
 
-      -- with the same commits behind it stands for the same
+      -- with the same commits behind it the schema is the same
+      pub same_schema : (n : ℕ) → schema_after (commits_at n stored) first.schema
+          ≡ schema_after (take n stored.after) later.schema
+      same_schema n = run-append put_unit no_rows stored.before (take n stored.after) first.schema
+          ∙ ap (option_and_then (λ now. schema_after (take n stored.after) now)) made
+
+      -- and it stands for the same
       module _ (n : ℕ) (low : stored.synced ≤ n) where
         abbrev d : Directory
         d = image_at (synced_cut n stored) stored

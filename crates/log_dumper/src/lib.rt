@@ -7,9 +7,11 @@
 mod carried;
 mod directories;
 mod images;
+mod loads;
 mod ordered;
 
 pub use carried::{carried_law, carrying_law};
 pub use directories::directory_law;
 pub use images::{image_law, says_law};
+pub use loads::loads_law;
 pub use ordered::{ordered_law, stands_law};

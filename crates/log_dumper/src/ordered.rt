@@ -8,7 +8,7 @@ ghost use Rattle.db_model.specs.Definitions.{Definition};
 ghost use Rattle.db_model.specs.Lawful.{table_in, IsLawful};
 ghost use Rattle.db_model.specs.Ops.{Operation};
 ghost use Rattle.dump_laws.specs.Contents.{has, AreOrdered, IsKeyed};
-ghost use Rattle.dump_laws.specs.Directory.{reached_after, under, of_table};
+ghost use Rattle.dump_laws.specs.Directory.{reached_after, schema_after, under, of_table};
 ghost use Rattle.dump_laws.specs.Effects.{IsAmong, IsDraft};
 ghost use Rattle.dump_laws.specs.Lists.{Directory, begun, database_of, HasMeaning, schema_of, seen, view_of};
 ghost use Rattle.dump_laws.specs.Order.{IsStrict, First};
@@ -108,5 +108,7 @@ pub fn ordered_law()
     ensures dropped { (first : First) (stored : Stored) → ((name : List ℕ) → IsCarriedIn first stored name)
         → reached_after first.schema.version stored.before ≤ stored.version → IsOrdered first stored
         → (later : First) × IsOrdered later (without_previous stored)
+        × ((n : ℕ) → schema_after (commits_at n stored) first.schema
+        ≡ schema_after (take n stored.after) later.schema)
         × ((n : ℕ) → stored.synced ≤ n → over first (commits_at n stored) ≡ over later (take n stored.after)) }
 {}

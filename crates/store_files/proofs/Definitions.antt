@@ -1,5 +1,5 @@
 -- Definitions as items.
-use Rattle.std.proofs.Common.{◌≡◌, ℕ, ◌+◌, ◌-◌, ◌≤◌, ◌<◌, ◌^◌, Bool, List, [], ◌∷◌, ◌++◌, length, map, Option, Some, None, Result, Ok, Err, refl, sym, ap, subst, ◌∙◌, arith, codes}
+use Rattle.std.proofs.Common.{◌≡◌, ℕ, ◌-◌, ◌≤◌, ◌<◌, ◌^◌, Bool, List, [], ◌∷◌, ◌++◌, length, map, Option, Some, None, Result, Ok, Err, refl, sym, ap, subst, ◌∙◌, arith, codes}
 use Rattle.std.specs.Prelude.{All, IfOk, OnOk, IsTrue, MatchOption, slice_get}
 use Rattle.std.specs.Ordering.{nat_cmp, is_lt}
 use Rattle.std.specs.Cmp.Lexicographic.{slice_cmp, nat_list_cmp_total}
@@ -22,7 +22,7 @@ use Rattle.db_model.proofs.Defined.{one_definition, read_back}
 use Rattle.store_files.specs.Forms.{AreIncreasing, IsItemOf}
 use Rattle.store_files.specs.Schema.{IsTable, table_tree, IsNamedBefore, AreTables, schema_form}
 use Rattle.store_files.proofs.OneFile.{IsTold}
-use Rattle.store_files.proofs.Increasing.{is_less, last_is, increasing_first, increasing_last, increasing_more, increasing_one}
+use Rattle.store_files.proofs.Increasing.{is_less, last_is, increasing_first, increasing_last, increasing_more}
 
 -- ---- how deep the term is
 
@@ -106,16 +106,6 @@ parts_told t options name cookie (Ok (Some def)) small is h = record {
   defined = h.2;
 }
 
--- the table that the content says
-pub table_told : {E : Type 0} (content : List ℕ) (t : Tree) (r : Result (Option TableDef) E) → IsText content t
-    → IfOk r (λ found. MatchOption found ((one : Definition) → Defines (codes "table") t one → ⊥)
-    (λ def. Defines (codes "table") t (definition def)))
-    → IfOk r (λ found. MatchOption found ((one : Definition) → IsTable content one → ⊥) (λ def. IsTable content (definition def)))
-table_told content t (Err e) text h = tt
-table_told content t (Ok None) text none = λ one is.
-    none one (subst (λ u. Defines (codes "table") u one) (one_tree content is.0 t is.1 text) is.2)
-table_told content t (Ok (Some def)) text h = (t, text, h)
-
 -- a content says one table
 pub one_table : (content : List ℕ) (one other : Definition) → IsTable content one → IsTable content other → one ≡ other
 one_table content one other (t, text, x) (u, also, y) =
@@ -140,9 +130,6 @@ tables_first xs ys h = record {
   increasing = increasing_first IsNamedBefore xs ys h.increasing;
   few = omega (arith, h.few, length-append xs ys);
 }
-
-pub no_tables : AreTables []
-no_tables = record { increasing = tt; few = omega arith }
 
 -- a table whose name comes behind the last one's
 pub follows : (tables : List TableDef) (table last : TableDef) (b : Bool) → length tables < 1000 → AreTables (map definition tables)

@@ -1,5 +1,5 @@
 -- First items.
-use Rattle.std.proofs.Common.{◌≡◌, ℕ, ◌<◌, ◌^◌, not, List, [], ◌∷◌, length, Option, Some, None, Result, Ok, Err, refl, sym, ap, subst, inl, inr, arith}
+use Rattle.std.proofs.Common.{◌≡◌, ℕ, ◌<◌, ◌^◌, not, List, [], ◌∷◌, length, Option, Some, None, Result, Ok, Err, refl, subst, inl, inr, arith}
 use Rattle.std.specs.Prelude.{slice_get, IfOk, IfSome, IsErrOf, MatchOption}
 use Rattle.term_core.specs.Tree.{Tree}
 use Rattle.term_wire.specs.Spelling.{IsText}

@@ -1,9 +1,10 @@
 -- The items of a file of some form, read one after another.
-use Rattle.std.proofs.Common.{◌≡◌, ◌⊎◌, ℕ, zero, suc, ◌+◌, ◌≤◌, not, List, [], ◌∷◌, ◌++◌, length, take, drop, Option, Some, None, refl, sym, ap, ◌∙◌, subst, inl, inr, arith}
+use Rattle.std.proofs.Common.{◌≡◌, ℕ, Bool, zero, suc, ◌+◌, ◌≤◌, not, List, [], ◌∷◌, ◌++◌, length, take, drop, Option, Some, refl, sym, ap, ◌∙◌, subst, inl, inr, arith}
 use Rattle.std.specs.Prelude.{slice_get}
 use Rattle.std.specs.List.{AllZip}
 use Rattle.std.proofs.lemmas.List.{take-append-drop, length-take-le}
-use Rattle.log_items.specs.Items.{wire}
+use Rattle.log_items.specs.Items.{wire, log_bytes, AreContents}
+use Rattle.log_items.proofs.Unique.{written}
 use Rattle.disk_logs.specs.Logs.{FileRead, IsRead}
 use Rattle.store_files.specs.Forms.{Form, BeginWith, AreItemsOf, IsOther, IsWrongAt, IsWrong, Gives, IsOfOther}
 use Rattle.store_files.specs.Inside.Found.{IsHeadless}
@@ -25,10 +26,6 @@ within [] n content is = absurd (cc)
 within (first ∷ items) zero content is = omega arith
 within (first ∷ items) (suc n) content is = omega (arith, within items n content is)
 
-pub begin_some : (word : List ℕ) (number : ℕ) (items : List (List ℕ)) → BeginWith word number items → 1 ≤ length items
-begin_some word number [] h = absurd h
-begin_some word number (first ∷ items) h = omega arith
-
 push_said : {X : Type 0} (Says : List ℕ → X → Type 0) (contents : List (List ℕ)) (xs : List X) (content : List ℕ) (x : X)
     → AllZip Says contents xs → Says content x → AllZip Says (contents ++ content ∷ []) (xs ++ x ∷ [])
 push_said Says [] [] content x h one = (one, tt)
@@ -36,23 +33,25 @@ push_said Says [] (y ∷ xs) content x h one = absurd h
 push_said Says (c ∷ contents) [] content x h one = absurd h
 push_said Says (c ∷ contents) (y ∷ xs) content x h one = (h.0, push_said Says contents xs content x h.1 one)
 
-module _ {X : Type 0} (form : Form X) where
-  -- the first item alone says nothing else
-  pub head_alone : (number : ℕ) (items : List (List ℕ)) → BeginWith form.word number items → form.Allows []
-      → AreItemsOf form number [] (take 1 items)
-  head_alone number [] h none = absurd h
-  head_alone number (first ∷ items) h none = (h, tt, none)
+pub other_read : (word : List ℕ) (Counts : ℕ → Type 0) (read : FileRead) (file : Option (List ℕ)) (number : ℕ) → IsRead read
+    → file ≡ Some read.bytes → (Counts number → ⊥) → BeginWith word number read.items → IsOfOther word Counts file
+other_read word Counts read file number whole there other begin = record {
+  bytes = read.bytes;
+  there = there;
+  items = read.items;
+  listed = (not read.was_open, whole);
+  number = number;
+  begin = begin;
+  other = other;
+}
 
+module _ {X : Type 0} (form : Form X) where
   pub allowed : (number : ℕ) (xs : List X) (items : List (List ℕ)) → AreItemsOf form number xs items → form.Allows xs
   allowed number xs [] h = absurd h
   allowed number xs (first ∷ contents) h = h.2
 
-  pub begins : (number : ℕ) (xs : List X) (items : List (List ℕ)) → AreItemsOf form number xs items
-      → BeginWith form.word number items
-  begins number xs [] h = h
-  begins number xs (first ∷ contents) h = h.0
-
-  one_more : (number : ℕ) (xs : List X) (items : List (List ℕ)) (x : X) (content : List ℕ)
+  -- one more behind them
+  pub one_more : (number : ℕ) (xs : List X) (items : List (List ℕ)) (x : X) (content : List ℕ)
       → AreItemsOf form number xs items → form.Says content x → form.Allows (xs ++ x ∷ [])
       → AreItemsOf form number (xs ++ x ∷ []) (items ++ content ∷ [])
   one_more number xs [] x content h says allows = absurd h
@@ -61,7 +60,7 @@ module _ {X : Type 0} (form : Form X) where
 
   module _ (items : List (List ℕ)) (number : ℕ) (xs : List X) (n : ℕ) (content : List ℕ)
       (are : AreItemsOf form number xs (take n items)) (found : slice_get items n ≡ Some content) where
-    -- one more
+    -- one more was read
     pub items_more : (x : X) → form.Says content x → form.Allows (xs ++ x ∷ [])
         → AreItemsOf form number (xs ++ x ∷ []) (take (n + 1) items)
     items_more x says allows =
@@ -102,18 +101,6 @@ module _ {X : Type 0} (form : Form X) where
     are = are;
   }
 
-  pub other_read : (read : FileRead) (file : Option (List ℕ)) (number : ℕ) → IsRead read → file ≡ Some read.bytes
-      → (form.Counts number → ⊥) → BeginWith form.word number read.items → IsOfOther form file
-  other_read read file number whole there other begin = record {
-    bytes = read.bytes;
-    there = there;
-    items = read.items;
-    listed = (not read.was_open, whole);
-    number = number;
-    begin = begin;
-    other = other;
-  }
-
   pub wrong_read : (read : FileRead) (file : Option (List ℕ)) (at : ℕ) → IsRead read → file ≡ Some read.bytes
       → IsWrongAt form read.items at → IsWrong form at file
   wrong_read read file at whole there wrong = record {
@@ -129,4 +116,17 @@ module _ {X : Type 0} (form : Form X) where
     bytes = bytes;
     there = there;
     wrong = inr (items, listed, record { n = 0; wrong = inl (refl, lacks); place = place });
+  }
+
+  -- ---- a file that was written
+
+  pub gives_written : (closed : Bool) (items : List (List ℕ)) (number : ℕ) (xs : List X) → AreContents items → form.Counts number
+      → AreItemsOf form number xs items → Gives form number xs (Some (log_bytes closed items))
+  gives_written closed items number xs fit counts are = record {
+    counts = counts;
+    bytes = log_bytes closed items;
+    there = refl;
+    items = items;
+    listed = (closed, written closed items fit);
+    are = are;
   }

@@ -1,21 +1,17 @@
 -- Lists of which each thing comes before all that stand behind it.
-use Rattle.std.proofs.Common.{◌≡◌, true, ℕ, zero, suc, ◌-◌, ◌+◌, List, [], ◌∷◌, ◌++◌, length, Some, None, Option, refl, sym, ap, ◌∙◌, subst, arith}
+use Rattle.std.proofs.Common.{◌≡◌, true, suc, ◌-◌, List, [], ◌∷◌, ◌++◌, length, Some, refl, ap, subst, arith}
 use Rattle.std.specs.Prelude.{slice_get}
 use Rattle.std.specs.List.{AllByRecursion}
 use Rattle.std.specs.Ordering.{is_lt}
 use Rattle.std.specs.declared.cmp.Ordering.{Ordering}
 use Rattle.std.specs.declared.cmp.Ordering.TheVariants.{Less, Equal, Greater}
 use Rattle.store_files.specs.Forms.{AreIncreasing}
+use Rattle.store_files.specs.Inside.Reading.{HasLast}
 
 pub is_less : (o : Ordering) → is_lt o ≡ true → o ≡ Less
 is_less Less h = refl
 is_less Equal h = absurd (cc)
 is_less Greater h = absurd (cc)
-
--- the last of some
-pub record HasLast {X : Type 0} (xs : List X) (last : X) : Type 0 where
-  pub front : List X
-  pub is : xs ≡ front ++ last ∷ []
 
 pub last_is : {X : Type 0} (xs : List X) (last : X) → slice_get xs (length xs - 1) ≡ Some last → HasLast xs last
 last_is [] last is = absurd (cc)
@@ -59,5 +55,7 @@ module _ {X : Type 0} (Before : X → X → Type 0) where
     increasing_more trans front last x h.1 before,
   )
 
-  pub increasing_one : (x : X) → AreIncreasing Before ([] ++ x ∷ [])
-  increasing_one x = (tt, tt)
+  -- all come before what is added
+  pub increasing_behind : (xs : List X) (x : X) → AreIncreasing Before (xs ++ x ∷ []) → AllByRecursion (λ y. Before y x) xs
+  increasing_behind [] x h = tt
+  increasing_behind (z ∷ xs) x h = (all_last z xs x h.0, increasing_behind xs x h.1)

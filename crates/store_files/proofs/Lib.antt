@@ -6,10 +6,14 @@ pub mod FirstItems
 pub mod FormItems
 pub mod Increasing
 pub mod OneFile
+pub mod OneTable
 pub mod PairFacts
 pub mod PairNames
+pub mod RecordOrder
 pub mod Replacing
 pub mod SchemaRead
 pub mod Swapping
+pub mod TableForms
+pub mod TableRead
 pub mod Taking
 pub mod TermTexts

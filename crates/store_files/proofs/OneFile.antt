@@ -1,21 +1,17 @@
 -- A file of some form says one thing, or has one first wrong place, and never both.
-use Rattle.std.proofs.Common.{◌≡◌, ◌⊎◌, ℕ, suc, ◌+◌, List, [], ◌∷◌, ◌++◌, length, take, Option, Some, None, refl, sym, ap, ◌∙◌, subst, inl, inr, append_assoc}
+use Rattle.std.proofs.Common.{◌≡◌, ◌⊎◌, ℕ, suc, ◌+◌, List, [], ◌∷◌, ◌++◌, length, take, Option, Some, refl, sym, ap, ◌∙◌, subst, inl, inr, append_assoc}
 use Rattle.std.specs.List.{AllZip}
 use Rattle.term_wire.proofs.Again.{one_tree}
 use Rattle.log_items.specs.Items.{wire, HasItems}
 use Rattle.log_items.specs.Scan.{IsBadAt}
 use Rattle.log_items.proofs.Unique.{one_list, file_not_bad, one_place}
-use Rattle.store_files.specs.Forms.{Form, head_tree, IsHead, BeginWith, LackHead, AreItemsOf, IsOther, HasOther, IsWrongFrom, IsWrongAt, IsWrong, Gives, IsOfOther, IsAbsent}
+use Rattle.store_files.specs.Forms.{Form, head_tree, IsHead, BeginWith, LackHead, AreItemsOf, IsOther, IsWrongFrom, IsWrongAt, IsWrong, Gives, IsAbsent}
 
 same_number : (word : List ℕ) (m n : ℕ) → head_tree word m ≡ head_tree word n → m ≡ n
 same_number word m n is = cc
 
 pub one_head : (word content : List ℕ) (m n : ℕ) → IsHead word m content → IsHead word n content → m ≡ n
 one_head word content m n x y = same_number word m n (one_tree content (head_tree word m) (head_tree word n) x.1 y.1)
-
-one_begin : (word : List ℕ) (items : List (List ℕ)) (m n : ℕ) → BeginWith word m items → BeginWith word n items → m ≡ n
-one_begin word [] m n x y = absurd x
-one_begin word (first ∷ items) m n x y = one_head word first m n x y
 
 some_is : {T : Type 0} (x y : T) → Some x ≡ Some y → x ≡ y
 some_is x y h = cc

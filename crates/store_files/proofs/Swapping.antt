@@ -138,7 +138,7 @@ module _ {old : Past} {writer : DcdState} {files : TableFiles} {items : List (Li
           fit = h.fit;
           stand = published_files old writer.table files items h.fit (old_files h unpublished) new own
               (subst (λ (l : Handle). LogStands new l.name l.closed items (length items))
-                (is ∙ ap (λ (l : Handle). record { name = l.name; draft = false; closed = l.closed }) at)
+              (is ∙ ap (λ (l : Handle). record { name = l.name; draft = false; closed = l.closed }) at)
               stands.stands);
           draft = λ is. cc is;
         })

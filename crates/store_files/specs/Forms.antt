@@ -2,7 +2,6 @@
 use Rattle.std.specs.Prelude.{◌≡◌, ◌⊎◌, ℕ, pos, ◌+◌, ◌<◌, ◌^◌, List, [], ◌∷◌, ◌++◌, length, take, ⊤, Option, None, Some}
 use Rattle.std.specs.List.{AllZip, AllByRecursion}
 use Rattle.term_core.specs.Tree.{Tree, int, atom, tuple, no_trees, tree}
-use Rattle.term_core.specs.Written.{canon}
 use Rattle.term_wire.specs.Spelling.{IsText}
 use Rattle.log_items.specs.Items.{wire, item_bytes, IsContent, HasItems}
 use Rattle.log_items.specs.Scan.{IsBadAt}
@@ -64,18 +63,18 @@ pub record Gives {X : Type 0} (form : Form X) (number : ℕ) (xs : List X) (file
   pub are : AreItemsOf form number xs items
 
 -- The file is another's: of its items the first alone is looked at, and the number that it says does not count.
-pub record IsOfOther {X : Type 0} (form : Form X) (file : Option (List ℕ)) : Type 0 where
+pub record IsOfOther (word : List ℕ) (Counts : ℕ → Type 0) (file : Option (List ℕ)) : Type 0 where
   pub bytes : List ℕ
   pub there : file ≡ Some bytes
   pub items : List (List ℕ)
   pub listed : HasItems bytes items
   pub number : ℕ
-  pub begin : BeginWith form.word number items
-  pub other : form.Counts number → ⊥
+  pub begin : BeginWith word number items
+  pub other : Counts number → ⊥
 
 -- there is no file, or it is another's
 abbrev pub IsAbsent : {X : Type 0} → Form X → Option (List ℕ) → Type 0
-IsAbsent form file = (file ≡ None) ⊎ IsOfOther form file
+IsAbsent form file = (file ≡ None) ⊎ IsOfOther form.word form.Counts file
 
 -- ---- files without a meaning
 

@@ -4,7 +4,7 @@ ghost use Rattle.std.specs.Prelude.{◌≡◌, ◌<◌, ◌^◌, ℕ, List, leng
 ghost use Rattle.file_trait.specs.DiskModel.{reads};
 ghost use Rattle.disk_logs.specs.Errors.{LogCause};
 ghost use Rattle.store_files.specs.Forms.{BeginWith, LackHead};
-ghost use Rattle.store_files.specs.Inside.Found.{IsHeaded, HasFound};
+ghost use Rattle.store_files.specs.Inside.Found.{IsHeaded, HasFound, HasOwn};
 
 use crate::heads::head_number;
 use disk_logs::{LogErr, LogFile};
@@ -58,4 +58,33 @@ fn first_number(alloc: Global, file: &LogFile, word: &str) -> Result<Option<u64>
         return Ok(None);
     }
     head_number(alloc, file.content(0), word)
+}
+
+/// Reads the file of this name whose first item says this number. One that says another number counts as absent.
+pub(crate) fn own_file<D: Disk>(
+    alloc: Global,
+    disk: &mut D,
+    name: FileName,
+    word: &str,
+    number: u64,
+) -> Result<Option<LogFile>, LogErr>
+    ensures read { IsTrue D.tells → HasOwn word.now name number result (reads (D.past disk.old) name) }
+    ensures whole { IfOk result (λ found. IfSome found (IsHeaded word.now number)) }
+    ensures bad { (other : List ℕ) (at : ℕ) → IsErrOf result (LogErr.Bad other at) → other ≡ name }
+    ensures never { IsErrOf result LogErr.TooLong → ⊥ }
+    ensures same { IsTrue D.tells → D.past disk.new ≡ D.past disk.old }
+    ensures time { D.moment disk.new ≡ D.moment disk.old }
+    ensures cause { LogCause (D.faults disk.old) (D.faults disk.new) (D.blamed disk.new) result }
+    ensures named { (other : List ℕ) → IsErrOf result (LogErr.File other) → other ≡ name }
+{
+    let Headed { file, number: own } = match Headed::read(alloc, disk, name, word) {
+        Ok(Some(found)) => found,
+        Ok(None) => return Ok(None),
+        Err(error) => return Err(error),
+    };
+    if own == number {
+        Ok(Some(file))
+    } else {
+        Ok(None)
+    }
 }

@@ -1,11 +1,11 @@
 -- What is found of a file: its items, of which the first says a number.
-use Rattle.std.specs.Prelude.{◌≡◌, ◌≢◌, ◌⊎◌, ℕ, ◌<◌, ◌^◌, List, [], length, Option, None, Some, Result, Ok, Err}
+use Rattle.std.specs.Prelude.{◌≡◌, ◌⊎◌, ℕ, ◌<◌, ◌^◌, List, length, Option, None, Some, Result, Ok, Err}
 use Rattle.log_items.specs.Items.{HasItems}
 use Rattle.log_items.specs.Scan.{IsBadAt}
 use Rattle.disk_logs.specs.Logs.{FileRead, IsRead}
 use Rattle.disk_logs.specs.declared.error.LogErr.{LogErr}
 use Rattle.disk_logs.specs.declared.error.LogErr.TheVariants.{File, Bad, TooLong, Memory}
-use Rattle.store_files.specs.Forms.{BeginWith, LackHead}
+use Rattle.store_files.specs.Forms.{BeginWith, LackHead, IsOfOther}
 use Rattle.store_files.specs.declared.headed.Headed.{Headed}
 
 -- its items begin with this number
@@ -27,3 +27,12 @@ HasFound word name (Err (Bad other at)) file = (other ≡ name) × IsHeadless wo
 HasFound word name (Err TooLong) file = ⊥
 HasFound word name (Err (File other)) file = Unit {0}
 HasFound word name (Err Memory) file = Unit {0}
+
+-- the same of a file with this number, where one with another counts as absent
+abbrev pub HasOwn : List ℕ → List ℕ → ℕ → Result (Option FileRead) LogErr → Option (List ℕ) → Type 0
+HasOwn word name number (Ok None) file = (file ≡ None) ⊎ IsOfOther word (λ n. n ≡ number) file
+HasOwn word name number (Ok (Some read)) file = file ≡ Some read.bytes
+HasOwn word name number (Err (Bad other at)) file = (other ≡ name) × IsHeadless word at file
+HasOwn word name number (Err TooLong) file = ⊥
+HasOwn word name number (Err (File other)) file = Unit {0}
+HasOwn word name number (Err Memory) file = Unit {0}

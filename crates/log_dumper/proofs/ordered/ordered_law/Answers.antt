@@ -1,5 +1,5 @@
 use Rattle.log_dumper.proofs.LogSteps.{commit_stored, log_synced, log_rotated}
-use Rattle.log_dumper.proofs.SchemaSteps.{schema_stored, later, previous_gone, same_over, start_ordered}
+use Rattle.log_dumper.proofs.SchemaSteps.{schema_stored, later, previous_gone, same_schema, same_over, start_ordered}
 use Rattle.log_dumper.proofs.TableSteps.{ops_begun, op_carried, ops_synced, rows_beside, rows_left, files_removed}
 use Rattle.log_dumper.proofs.ordered.ordered_law.Goals as goal
 
@@ -41,5 +41,6 @@ pub returns-clause-dropped : goal.returns-clause-dropped
 returns-clause-dropped c first stored carried enough o = (
   later first stored o carried enough,
   previous_gone first stored o carried enough,
+  same_schema first stored o carried enough,
   λ n low. same_over first stored o carried enough n low,
 )

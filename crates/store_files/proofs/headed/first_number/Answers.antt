@@ -1,5 +1,4 @@
-use Rattle.std.proofs.Common.{sym, ◌∙◌}
-use Rattle.store_files.proofs.FirstItems.{head_first, no_first}
+use Rattle.store_files.proofs.FirstItems.{head_first}
 use Rattle.store_files.proofs.headed.first_number.Goals as goal
 
 pub returns-clause-number : goal.returns-clause-number
