@@ -8,7 +8,8 @@ use file_trait::Disk;
 use std::alloc::{AllocError, Global};
 use std::test::Fail;
 
-const ALL: u64 = u64::MAX;
+/// Each of what is pending.
+pub const ALL: u64 = u64::MAX;
 
 /// What an image has of the operations that are pending.
 #[derive(Clone, Copy, Debug, PartialEq, Eq)]
@@ -98,10 +99,15 @@ fn choice(alloc: Global, image: Image) -> Result<Choice, AllocError> {
     })
 }
 
+/// What a crash leaves now, as a new disk.
+pub fn left(alloc: Global, disk: &MemDisk, image: Image) -> Result<MemDisk, Fail> {
+    let choice = choice(alloc, image)?;
+    Ok(disk.image(disk.clock(), &choice)?.ok_or("moment")?)
+}
+
 // What a run wrote that starts on the image, and asks for all that the database has.
 fn after_a_crash(alloc: Global, disk: &MemDisk, image: Image) -> Result<Vec<u8>, Fail> {
-    let choice = choice(alloc, image)?;
-    let mut left = disk.image(disk.clock(), &choice)?.ok_or("moment")?;
+    let mut left = left(alloc, disk, image)?;
     let (_, replies) = ran(alloc, &mut left, &QUESTIONS)?;
     Ok(replies)
 }

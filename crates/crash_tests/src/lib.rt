@@ -1,5 +1,6 @@
-//! Tests of whole runs over a disk in memory: of one script while the disk stops, or fails once, at each of its calls
-//! in turn, and of scripts that a number makes. What the runs reply is compared with plain lists that the tests keep.
+//! Tests over a disk in memory: of whole runs of one script while the disk stops, or fails once, at each of its calls in
+//! turn, and of scripts that a number makes; what the runs reply is compared with plain lists that the tests keep. And
+//! of a log that is rotated, in the same way.
 #![tactic(auto)]
 
 #[cfg(test)]
@@ -15,9 +16,13 @@ mod locks;
 #[cfg(test)]
 mod plain;
 #[cfg(test)]
+mod plain_logs;
+#[cfg(test)]
 mod refusals;
 #[cfg(test)]
 mod replies;
+#[cfg(test)]
+mod rotation;
 #[cfg(test)]
 mod runs;
 #[cfg(test)]
